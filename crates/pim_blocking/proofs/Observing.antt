@@ -9,7 +9,9 @@ use Rattle.std.specs.HashMap as hash
 use Rattle.std.specs.HashMap.{HashMap}
 use Rattle.std.specs.Cmp.{IsEquivalence}
 use Rattle.std.specs.Result.{OnOk}
-use Rattle.pim_facts.specs.declared.fact.What.TheVariants.{Granted}
+use Rattle.pim_facts.specs.Shown.{mutex_of}
+use Rattle.pim_facts.specs.declared.fact.What.TheVariants.{Granted, Waits}
+use Rattle.pim_course.specs.NextOwners.{is_that}
 use Rattle.pim_blocking.specs.declared.section.Section.{Section}
 use Rattle.pim_blocking.specs.declared.section.User.{User}
 use Rattle.pim_blocking.specs.declared.sections.Open.{Open}
@@ -45,54 +47,55 @@ keeps-same old new all is keeps q = ap (λ m. hash.get same_user m q) is ∙ kee
 pub open-past : (sections : Sections) (mutex : ℕ) → length sections.open.items ≤ mutex → open_at sections mutex ≡ None
 open-past sections mutex le = get_or_past sections.open.items mutex None le
 
--- what lasts at each mutex after a fact, if it is so at the mutex of the fact, and the others stay
-opens : (k : ℕ) (facts : List Moment) (m : Moment) (old new : Sections) → KnowsSections k facts old →
-    (m.fact.mutex < k → open_at new m.fact.mutex ≡ after_own m m.fact.what (open_at old m.fact.mutex)) →
-    (k ≤ m.fact.mutex → open_at new m.fact.mutex ≡ open_at old m.fact.mutex) →
-    ((mutex : ℕ) → mutex ≢ m.fact.mutex → open_at new mutex ≡ open_at old mutex) →
+-- what lasts at each mutex after a fact of one, if it is so at this one, and the others stay
+opens : (k : ℕ) (facts : List Moment) (m : Moment) (own : ℕ) (old new : Sections) → mutex_of m.fact.what ≡ Some own →
+    KnowsSections k facts old →
+    (own < k → open_at new own ≡ after_own m m.fact.what (open_at old own)) →
+    (k ≤ own → open_at new own ≡ open_at old own) →
+    ((mutex : ℕ) → mutex ≢ own → open_at new mutex ≡ open_at old mutex) →
     (mutex : ℕ) → open_at new mutex ≡ open_by k (m ∷ facts) mutex
-opens k facts m old new o own past others mutex = elim (cases_eq mutex m.fact.mutex) [
+opens k facts m own old new of o is past others mutex = elim (cases_eq mutex own) [
   | inl e ↦ elim (cases_lt mutex k) [
     | inl lt ↦
-        let below : m.fact.mutex < k = subst (λ i. i < k) e lt in
-        ap (open_at new) e ∙ own below ∙ ap (after_own m m.fact.what) (ap (open_at old) (sym e) ∙ o.lasting mutex)
-        ∙ sym (by true (and_from _ _ (eq-eqb mutex m.fact.mutex e) (lt-ltb mutex k lt)))
+        let below : own < k = subst (λ i. i < k) e lt in
+        ap (open_at new) e ∙ is below ∙ ap (after_own m m.fact.what) (ap (open_at old) (sym e) ∙ o.lasting mutex)
+        ∙ sym (by true (and_from _ _ (that ∙ eq-eqb own mutex (sym e)) (lt-ltb mutex k lt)))
     | inr le ↦
-        let above : k ≤ m.fact.mutex = subst (λ i. k ≤ i) e le in
+        let above : k ≤ own = subst (λ i. k ≤ i) e le in
         ap (open_at new) e ∙ past above ∙ ap (open_at old) (sym e) ∙ o.lasting mutex
         ∙ sym (by false (and_right _ _ (le-ltb mutex k le)))
   ]
-  | inr ne ↦ others mutex ne ∙ o.lasting mutex ∙ sym (by false (and_left _ _ (ne_eqb mutex m.fact.mutex ne)))
+  | inr ne ↦ others mutex ne ∙ o.lasting mutex
+      ∙ sym (by false (and_left _ _ (that ∙ ne_eqb own mutex (λ e. ne (sym e)))))
 ]
   where
-    by : (b : Bool) → ((mutex == m.fact.mutex) && nat_lt mutex k) ≡ b →
+    that : is_that (mutex_of m.fact.what) mutex ≡ own == mutex
+    that = ap (λ number. is_that number mutex) of
+
+    by : (b : Bool) → (is_that (mutex_of m.fact.what) mutex && nat_lt mutex k) ≡ b →
         open_by k (m ∷ facts) mutex ≡ cond b (after_own m m.fact.what (open_by k facts mutex)) (open_by k facts mutex)
     by b e = ap (λ b. cond b (after_own m m.fact.what (open_by k facts mutex)) (open_by k facts mutex)) e
 
--- a fact by which nothing lasts or ends
-pub knows-still : (k : ℕ) (facts : List Moment) (m : Moment) (sections : Sections) →
-    ((lasts : Option Open) → after_own m m.fact.what lasts ≡ lasts) →
-    ((lasts : Option Open) (all : List Section) → and_shown m m.fact.what lasts all ≡ all) →
-    KnowsSections k facts sections → KnowsSections k (m ∷ facts) sections
-knows-still k facts m sections still none o = record {
-  mutexes = o.mutexes;
-  lasting = opens k facts m sections sections o (λ lt. sym (still _)) (λ le. refl) (λ mutex ne. refl);
-  longest = subst (λ all. KeepsAll all sections) (sym (none (open_by k facts m.fact.mutex) (ended_sections k facts)))
-      o.longest;
-}
+-- what lasts at each mutex after a fact by which nothing begins or ends
+stays-open : (k : ℕ) (facts : List Moment) (m : Moment) → ((lasts : Option Open) → after_own m m.fact.what lasts ≡ lasts) →
+    (mutex : ℕ) → open_by k (m ∷ facts) mutex ≡ open_by k facts mutex
+stays-open k facts m still mutex = go (is_that (mutex_of m.fact.what) mutex && nat_lt mutex k)
+  where
+    go : (b : Bool) → cond b (after_own m m.fact.what (open_by k facts mutex)) (open_by k facts mutex)
+        ≡ open_by k facts mutex
+    go true = still (open_by k facts mutex)
+    go false = refl
 
 -- a wait
-pub knows-waits : (k : ℕ) (facts : List Moment) (m : Moment) (old new : Sections) (user : User) →
-    ((lasts : Option Open) → after_own m m.fact.what lasts ≡ lasts) →
-    ((lasts : Option Open) (all : List Section) → and_shown m m.fact.what lasts all
-    ≡ record { user = user_of m; lasted = 0 } ∷ all) →
-    new.open ≡ old.open → user ≡ user_of m → KeepsLongest old new user 0 → KnowsSections k facts old →
-    KnowsSections k (m ∷ facts) new
-knows-waits k facts m old new user still one is whose kept o = record {
+pub knows-waits : (k : ℕ) (facts : List Moment) (m : Moment) (own : ℕ) (old new : Sections) (user : User) →
+    m.fact.what ≡ Waits own → new.open ≡ old.open → user ≡ user_of m own → KeepsLongest old new user 0 →
+    KnowsSections k facts old → KnowsSections k (m ∷ facts) new
+knows-waits k facts m own old new user waits is whose kept o = record {
   mutexes = ap (λ v. length v.items) is ∙ o.mutexes;
-  lasting = opens k facts m old new o (λ lt. at m.fact.mutex ∙ sym (still _)) (λ le. at m.fact.mutex) (λ mutex ne. at mutex);
-  longest = subst (λ all. KeepsAll all new) (sym (one (open_by k facts m.fact.mutex) (ended_sections k facts)))
-      (keeps-more old new (user_of m) 0 (ended_sections k facts)
+  lasting = λ mutex. at mutex ∙ o.lasting mutex
+      ∙ sym (stays-open k facts m (λ lasts. ap (λ what. after_own m what lasts) waits) mutex);
+  longest = subst (λ what. KeepsAll (and_shown m what (open_by k facts) (ended_sections k facts)) new) (sym waits)
+      (keeps-more old new (user_of m own) 0 (ended_sections k facts)
       (subst (λ u. KeepsLongest old new u 0) whose kept) o.longest);
 }
   where
@@ -100,29 +103,31 @@ knows-waits k facts m old new user still one is whose kept o = record {
     at mutex = ap (λ v. get_or v.items mutex None) is
 
 -- a fact that ends what lasts at its mutex, and may begin what lasts then
-pub knows-ends : (k : ℕ) (facts : List Moment) (m : Moment) (old mid new : Sections) →
-    ((lasts : Option Open) (all : List Section) → and_shown m m.fact.what lasts all ≡ and_ended m.time lasts all) →
+pub knows-ends : (k : ℕ) (facts : List Moment) (m : Moment) (own : ℕ) (old mid new : Sections) →
+    mutex_of m.fact.what ≡ Some own →
+    ((lasting : ℕ → Option Open) (all : List Section) →
+    and_shown m m.fact.what lasting all ≡ and_ended m.time (lasting own) all) →
     length mid.open.items ≡ length old.open.items → length new.open.items ≡ length mid.open.items →
     new.longest ≡ mid.longest →
-    ((mutex : ℕ) → open_at mid mutex ≡ cond (mutex == m.fact.mutex) None (open_at old mutex)) →
-    (m.fact.mutex < length old.open.items → open_at new m.fact.mutex ≡ after_own m m.fact.what (open_at old m.fact.mutex)) →
-    (length old.open.items ≤ m.fact.mutex → open_at new m.fact.mutex ≡ open_at mid m.fact.mutex) →
-    ((mutex : ℕ) → mutex ≢ m.fact.mutex → open_at new mutex ≡ open_at mid mutex) →
-    ((all : List Section) → KeepsAll all old → KeepsAll (and_ended m.time (open_at old m.fact.mutex) all) mid) →
+    ((mutex : ℕ) → open_at mid mutex ≡ cond (mutex == own) None (open_at old mutex)) →
+    (own < length old.open.items → open_at new own ≡ after_own m m.fact.what (open_at old own)) →
+    (length old.open.items ≤ own → open_at new own ≡ open_at mid own) →
+    ((mutex : ℕ) → mutex ≢ own → open_at new mutex ≡ open_at mid mutex) →
+    ((all : List Section) → KeepsAll all old → KeepsAll (and_ended m.time (open_at old own) all) mid) →
     KnowsSections k facts old → KnowsSections k (m ∷ facts) new
-knows-ends k facts m old mid new shown len len2 is ended own past others kept o = record {
+knows-ends k facts m own old mid new of shown len len2 is ended begun past others kept o = record {
   mutexes = len2 ∙ len ∙ o.mutexes;
-  lasting = opens k facts m old new o
-      (λ lt. own (subst (λ l. m.fact.mutex < l) (sym o.mutexes) lt))
+  lasting = opens k facts m own old new of o
+      (λ lt. begun (subst (λ l. own < l) (sym o.mutexes) lt))
       (λ le.
-      let above : length old.open.items ≤ m.fact.mutex = subst (λ l. l ≤ m.fact.mutex) (sym o.mutexes) le in
-      past above ∙ ended m.fact.mutex
-      ∙ ap (λ b. cond b None (open_at old m.fact.mutex)) (eq-eqb m.fact.mutex m.fact.mutex refl)
-      ∙ sym (open-past old m.fact.mutex above))
-      (λ mutex ne. others mutex ne ∙ ended mutex ∙ ap (λ b. cond b None (open_at old mutex)) (ne_eqb mutex m.fact.mutex ne));
-  longest = subst (λ all. KeepsAll all new) (sym (shown (open_by k facts m.fact.mutex) (ended_sections k facts)))
+      let above : length old.open.items ≤ own = subst (λ l. l ≤ own) (sym o.mutexes) le in
+      past above ∙ ended own
+      ∙ ap (λ b. cond b None (open_at old own)) (eq-eqb own own refl)
+      ∙ sym (open-past old own above))
+      (λ mutex ne. others mutex ne ∙ ended mutex ∙ ap (λ b. cond b None (open_at old mutex)) (ne_eqb mutex own ne));
+  longest = subst (λ all. KeepsAll all new) (sym (shown (open_by k facts) (ended_sections k facts)))
       (keeps-same mid new _ is
-      (subst (λ lasts. KeepsAll (and_ended m.time lasts (ended_sections k facts)) mid) (o.lasting m.fact.mutex)
+      (subst (λ lasts. KeepsAll (and_ended m.time lasts (ended_sections k facts)) mid) (o.lasting own)
       (kept (ended_sections k facts) o.longest)));
 }
 
@@ -141,28 +146,28 @@ granted-by : (time : ℕ) (mid new : Sections) (user : User) (mutex : ℕ) (b : 
 granted-by time mid new user mutex b e opened =
     opened mutex ∙ ap (λ b. cond b (Some (record { user = user; began = time })) (open_at mid mutex)) e
 
-pub granted-own : (m : Moment) (old mid new : Sections) (user : User) → m.fact.what ≡ Granted → user ≡ user_of m →
-    length mid.open.items ≡ length old.open.items → GrantOpens user m.time mid new → m.fact.mutex < length old.open.items →
-    open_at new m.fact.mutex ≡ after_own m m.fact.what (open_at old m.fact.mutex)
-granted-own m old mid new user is whose len opened lt =
-    let below : m.fact.mutex < length mid.open.items = subst (λ l. m.fact.mutex < l) (sym len) lt in
-    granted-by m.time mid new user m.fact.mutex true
-    (and_from _ _ (eq-eqb m.fact.mutex user.mutex (ap (λ u. u.mutex) (sym whose)))
-    (lt-ltb m.fact.mutex (length mid.open.items) below)) opened
+pub granted-own : (m : Moment) (own : ℕ) (old mid new : Sections) (user : User) → m.fact.what ≡ Granted own →
+    user ≡ user_of m own → length mid.open.items ≡ length old.open.items → GrantOpens user m.time mid new →
+    own < length old.open.items → open_at new own ≡ after_own m m.fact.what (open_at old own)
+granted-own m own old mid new user is whose len opened lt =
+    let below : own < length mid.open.items = subst (λ l. own < l) (sym len) lt in
+    granted-by m.time mid new user own true
+    (and_from _ _ (eq-eqb own user.mutex (ap (λ u. u.mutex) (sym whose)))
+    (lt-ltb own (length mid.open.items) below)) opened
     ∙ ap (λ u. Some (record { user = u; began = m.time })) whose
-    ∙ sym (ap (λ what. after_own m what (open_at old m.fact.mutex)) is)
+    ∙ sym (ap (λ what. after_own m what (open_at old own)) is)
 
-pub granted-past : (m : Moment) (old mid new : Sections) (user : User) → user ≡ user_of m →
-    length mid.open.items ≡ length old.open.items → GrantOpens user m.time mid new → length old.open.items ≤ m.fact.mutex →
-    open_at new m.fact.mutex ≡ open_at mid m.fact.mutex
-granted-past m old mid new user whose len opened le =
-    let above : length mid.open.items ≤ m.fact.mutex = subst (λ l. l ≤ m.fact.mutex) (sym len) le in
-    granted-by m.time mid new user m.fact.mutex false
-    (and_right _ _ (le-ltb m.fact.mutex (length mid.open.items) above)) opened
+pub granted-past : (m : Moment) (own : ℕ) (old mid new : Sections) (user : User) →
+    length mid.open.items ≡ length old.open.items → GrantOpens user m.time mid new → length old.open.items ≤ own →
+    open_at new own ≡ open_at mid own
+granted-past m own old mid new user len opened le =
+    let above : length mid.open.items ≤ own = subst (λ l. l ≤ own) (sym len) le in
+    granted-by m.time mid new user own false
+    (and_right _ _ (le-ltb own (length mid.open.items) above)) opened
 
-pub granted-others : (m : Moment) (mid new : Sections) (user : User) → user ≡ user_of m → GrantOpens user m.time mid new →
-    (mutex : ℕ) → mutex ≢ m.fact.mutex → open_at new mutex ≡ open_at mid mutex
-granted-others m mid new user whose opened mutex ne =
+pub granted-others : (m : Moment) (own : ℕ) (mid new : Sections) (user : User) → user ≡ user_of m own →
+    GrantOpens user m.time mid new → (mutex : ℕ) → mutex ≢ own → open_at new mutex ≡ open_at mid mutex
+granted-others m own mid new user whose opened mutex ne =
     granted-by m.time mid new user mutex false
     (and_left _ _ (ne_eqb mutex user.mutex (λ e. ne (e ∙ ap (λ u. u.mutex) whose)))) opened
 

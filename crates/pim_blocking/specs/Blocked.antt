@@ -26,12 +26,12 @@ first_level ids t = option_map_or level_of (slice_get ids.threads.items t) 0
 
 -- the highest level of a thread after a fact of its own, by the highest one before
 abbrev pub and_level : What → ℕ → ℕ
-and_level Granted highest = highest
-and_level Waits highest = highest
-and_level GaveUp highest = highest
-and_level (Released next) highest = highest
+and_level (Granted mutex) highest = highest
+and_level (Waits mutex) highest = highest
+and_level (GaveUp mutex) highest = highest
+and_level (Released mutex next) highest = highest
 and_level (Level level) highest = max highest level
-and_level (Ceiling level) highest = highest
+and_level (Ceiling mutex level) highest = highest
 
 -- the highest level that a thread had, at the begin or by one of these facts
 abbrev pub highest_level : Ids → List Moment → ℕ → ℕ
@@ -47,13 +47,13 @@ awaited_level course t =
 
 -- since when a thread waits for one of a lower level after a fact of its own, by since when it did before
 abbrev pub since_after : Moment → What → Option ℕ → Option ℕ
-since_after m Granted since = None
-since_after m Waits since =
+since_after m (Granted mutex) since = None
+since_after m (Waits mutex) since =
     if nat_lt (awaited_level m.course m.fact.thread) (thread_in m.course m.fact.thread).level then Some m.time else None
-since_after m GaveUp since = None
-since_after m (Released next) since = since
+since_after m (GaveUp mutex) since = None
+since_after m (Released mutex next) since = since
 since_after m (Level level) since = since
-since_after m (Ceiling level) since = since
+since_after m (Ceiling mutex level) since = since
 
 -- since when a thread waits for one of a lower level after these facts, if it does
 abbrev pub since_by : List Moment → ℕ → Option ℕ
@@ -67,12 +67,12 @@ and_waited time (Some since) longest = max longest (time - since)
 
 -- the longest wait after a fact of the thread, by the one before: a grant ends a wait, and to give up does
 abbrev pub longest_after : Moment → What → Option ℕ → ℕ → ℕ
-longest_after m Granted since longest = and_waited m.time since longest
-longest_after m Waits since longest = longest
-longest_after m GaveUp since longest = and_waited m.time since longest
-longest_after m (Released next) since longest = longest
+longest_after m (Granted mutex) since longest = and_waited m.time since longest
+longest_after m (Waits mutex) since longest = longest
+longest_after m (GaveUp mutex) since longest = and_waited m.time since longest
+longest_after m (Released mutex next) since longest = longest
 longest_after m (Level level) since longest = longest
-longest_after m (Ceiling level) since longest = longest
+longest_after m (Ceiling mutex level) since longest = longest
 
 -- how long a thread waited at most for one of a lower level, by the waits that these facts end
 abbrev pub ended_wait : List Moment → ℕ → ℕ

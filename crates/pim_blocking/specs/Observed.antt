@@ -1,10 +1,12 @@
 -- The critical sections that facts show.
-use Rattle.std.specs.Prelude.{◌≡◌, ◌↔◌, ℕ, zero, suc, ◌-◌, ◌==◌, nat_lt, ◌&&◌, max, List, [], ◌∷◌, length, slice_index_or, if◌then◌else◌, Option, Some, None, unwrap_or, Contains}
+use Rattle.std.specs.Prelude.{◌≡◌, ◌↔◌, ℕ, zero, suc, ◌-◌, nat_lt, ◌&&◌, max, List, [], ◌∷◌, length, slice_index_or, if◌then◌else◌, Option, Some, None, unwrap_or, Contains}
 use Rattle.std.specs.HashMap as hash
+use Rattle.pim_facts.specs.Shown.{mutex_of}
 use Rattle.pim_facts.specs.declared.fact.Fact.{Fact}
 use Rattle.pim_facts.specs.declared.fact.What.{What}
 use Rattle.pim_facts.specs.declared.fact.What.TheVariants.{Granted, Waits, GaveUp, Released, Level, Ceiling}
 use Rattle.pim_course.specs.Courses.{thread_in}
+use Rattle.pim_course.specs.NextOwners.{is_that}
 use Rattle.pim_course.specs.declared.course.Course.{Course}
 use Rattle.pim_blocking.specs.declared.section.Section.{Section}
 use Rattle.pim_blocking.specs.declared.section.User.{User}
@@ -18,24 +20,24 @@ pub record Moment : Type 0 where
   pub time : ℕ
   pub course : Course
 
--- the thread and the mutex of a fact, and the thread's level
-abbrev pub user_of : Moment → User
-user_of m = record { thread = m.fact.thread; mutex = m.fact.mutex; level = (thread_in m.course m.fact.thread).level }
+-- the thread of a fact uses this mutex at the level that it has then
+abbrev pub user_of : Moment → ℕ → User
+user_of m mutex = record { thread = m.fact.thread; mutex = mutex; level = (thread_in m.course m.fact.thread).level }
 
 -- the section that lasts at a mutex after a fact of it: a grant begins one, and a release ends it
 abbrev pub after_own : Moment → What → Option Open → Option Open
-after_own m Granted lasts = Some (record { user = user_of m; began = m.time })
-after_own m Waits lasts = lasts
-after_own m GaveUp lasts = lasts
-after_own m (Released next) lasts = None
+after_own m (Granted mutex) lasts = Some (record { user = user_of m mutex; began = m.time })
+after_own m (Waits mutex) lasts = lasts
+after_own m (GaveUp mutex) lasts = lasts
+after_own m (Released mutex next) lasts = None
 after_own m (Level level) lasts = lasts
-after_own m (Ceiling level) lasts = lasts
+after_own m (Ceiling mutex level) lasts = lasts
 
 -- the section that lasts at a mutex after these facts, if the mutex is below k
 abbrev pub open_by : ℕ → List Moment → ℕ → Option Open
 open_by k [] mutex = None
 open_by k (m ∷ before) mutex =
-    if (mutex == m.fact.mutex) && nat_lt mutex k
+    if is_that (mutex_of m.fact.what) mutex && nat_lt mutex k
     then after_own m m.fact.what (open_by k before mutex)
     else open_by k before mutex
 
@@ -44,20 +46,20 @@ abbrev pub and_ended : ℕ → Option Open → List Section → List Section
 and_ended time None sections = sections
 and_ended time (Some one) sections = record { user = one.user; lasted = time - one.began } ∷ sections
 
--- those with the sections that a fact shows, if this one lasts at its mutex: a grant ends it, too, and a wait is a section
--- that takes no time
-abbrev pub and_shown : Moment → What → Option Open → List Section → List Section
-and_shown m Granted lasts sections = and_ended m.time lasts sections
-and_shown m Waits lasts sections = record { user = user_of m; lasted = 0 } ∷ sections
-and_shown m GaveUp lasts sections = sections
-and_shown m (Released next) lasts sections = and_ended m.time lasts sections
-and_shown m (Level level) lasts sections = sections
-and_shown m (Ceiling level) lasts sections = sections
+-- those with the sections that a fact shows, if these last at the mutexes: a grant ends the one at its mutex, too, and a
+-- wait is a section that takes no time
+abbrev pub and_shown : Moment → What → (ℕ → Option Open) → List Section → List Section
+and_shown m (Granted mutex) lasting sections = and_ended m.time (lasting mutex) sections
+and_shown m (Waits mutex) lasting sections = record { user = user_of m mutex; lasted = 0 } ∷ sections
+and_shown m (GaveUp mutex) lasting sections = sections
+and_shown m (Released mutex next) lasting sections = and_ended m.time (lasting mutex) sections
+and_shown m (Level level) lasting sections = sections
+and_shown m (Ceiling mutex level) lasting sections = sections
 
 -- the sections that these facts end, at mutexes below k, the one that ended last first
 abbrev pub ended_sections : ℕ → List Moment → List Section
 ended_sections k [] = []
-ended_sections k (m ∷ before) = and_shown m m.fact.what (open_by k before m.fact.mutex) (ended_sections k before)
+ended_sections k (m ∷ before) = and_shown m m.fact.what (open_by k before) (ended_sections k before)
 
 -- those, and the sections that last at the end of the log, which has this time, at the mutexes below n
 abbrev pub sections_below : ℕ → List Moment → ℕ → ℕ → List Section

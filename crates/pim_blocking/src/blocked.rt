@@ -93,14 +93,14 @@ impl Blocked {
             since_after (record { fact = fact.now; time = time; course = course.now }) fact.now.what self.old.since }
     {
         match fact.what {
-            What::Waits => {
+            What::Waits(_) => {
                 let is_lower = awaited_level(course, fact.thread)
                     < course.thread(fact.thread).level;
                 self.since = is_lower.then_some(time);
             }
-            What::Granted | What::GaveUp => self.end(time),
+            What::Granted(_) | What::GaveUp(_) => self.end(time),
             What::Level(level) => self.level = self.level.max(level),
-            What::Released(_) | What::Ceiling(_) => {}
+            What::Released { .. } | What::Ceiling { .. } => {}
         }
     }
 

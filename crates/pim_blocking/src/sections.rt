@@ -60,14 +60,14 @@ impl Sections {
             KnowsSections k (record { fact = fact.now; time = time; course = course.now } ∷ facts) self.new) }
     {
         match fact.what {
-            What::Granted => {
-                self.close(fact.mutex as usize, time)?;
-                self.open_at(user_in(course, fact), time);
+            What::Granted(mutex) => {
+                self.close(mutex as usize, time)?;
+                self.open_at(user_in(course, fact, mutex), time);
                 Ok(())
             }
-            What::Waits => self.add(user_in(course, fact), 0),
-            What::Released(_) => self.close(fact.mutex as usize, time),
-            What::GaveUp | What::Level(_) | What::Ceiling(_) => Ok(()),
+            What::Waits(mutex) => self.add(user_in(course, fact, mutex), 0),
+            What::Released { mutex, .. } => self.close(mutex as usize, time),
+            What::GaveUp(_) | What::Level(_) | What::Ceiling { .. } => Ok(()),
         }
     }
 
@@ -172,13 +172,13 @@ impl Sections {
     }
 }
 
-/// Returns the thread and the mutex of a fact, and the thread's level.
-fn user_in(course: &Course, fact: &Fact) -> User
-    ensures { (time : ℕ) → result ≡ user_of (record { fact = fact.now; time = time; course = course.now }) }
+/// Returns that the thread of a fact uses this mutex, at its level.
+fn user_in(course: &Course, fact: &Fact, mutex: u32) -> User
+    ensures { (time : ℕ) → result ≡ user_of (record { fact = fact.now; time = time; course = course.now }) mutex }
 {
     User {
         thread: fact.thread,
-        mutex: fact.mutex,
+        mutex,
         level: course.thread(fact.thread).level,
     }
 }

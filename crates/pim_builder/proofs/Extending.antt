@@ -204,19 +204,17 @@ by_holders context b h P holds =
 shown_now : (context : Context) (b : TraceBuilder) (fact : Fact) → HasHolders context b → Shows context b fact → IsShownAt context fact (stage_of b)
 shown_now context b fact h shows = inl (by_holders context b h (λ ts ms.
     ShowsWhat b.pieces.piece.replay (priority_of context.priorities.now)
-    (λ t. held ts t (number_in context.numbering.now.threads t)) fact.what
-    (held ts fact.thread (number_in context.numbering.now.threads fact.thread))
-    (held ms fact.mutex (number_in context.numbering.now.mutexes fact.mutex))) shows)
+    (λ t. held ts t (number_in context.numbering.now.threads t))
+    (λ m. held ms m (number_in context.numbering.now.mutexes m)) fact.what fact.thread) shows)
 
 unset_now :
     (context : Context) (b : TraceBuilder) (fact : Fact)
     → HasHolders context b
-    → SetsNone fact.what (task_now context b fact.thread) (mutex_now context b fact.mutex)
+    → SetsNone (task_now context b) (mutex_now context b) fact.what fact.thread
     → IsShownAt context fact (stage_of b)
 unset_now context b fact h unset = inr (by_holders context b h (λ ts ms.
-    SetsNone fact.what
-    (held ts fact.thread (number_in context.numbering.now.threads fact.thread))
-    (held ms fact.mutex (number_in context.numbering.now.mutexes fact.mutex))) unset)
+    SetsNone (λ t. held ts t (number_in context.numbering.now.threads t))
+    (λ m. held ms m (number_in context.numbering.now.mutexes m)) fact.what fact.thread) unset)
 
 -- where facts are shown, there is a time for each step
 timed_by : (context : Context) (facts : List Dated) (now : Stage) → AreShownBy context facts now → HasTimes now.point.piece
@@ -228,7 +226,7 @@ pub shown_more :
     (context : Context) (fact : Fact) (time : ℕ) (a b : TraceBuilder) (is_used : Bool)
     → Extends context time a b
     → (IsTrue is_used → Shows context b fact)
-    → (is_used ≡ false → SetsNone fact.what (task_now context b fact.thread) (mutex_now context b fact.mutex))
+    → (is_used ≡ false → SetsNone (task_now context b) (mutex_now context b) fact.what fact.thread)
     → (facts : List Dated)
     → AreShown context facts a
     → AreShown context (record { fact = fact; time = time } ∷ facts) b
@@ -244,7 +242,7 @@ shown_more context fact time a b is_used extends shows unset facts shown =
       );
     }
   where
-    is_shown : (u : Bool) → (IsTrue u → Shows context b fact) → (u ≡ false → SetsNone fact.what (task_now context b fact.thread) (mutex_now context b fact.mutex)) → IsShownAt context fact (stage_of b)
+    is_shown : (u : Bool) → (IsTrue u → Shows context b fact) → (u ≡ false → SetsNone (task_now context b) (mutex_now context b) fact.what fact.thread) → IsShownAt context fact (stage_of b)
     is_shown true shows unset = shown_now context b fact (extends.holders shown.holders) (shows refl)
     is_shown false shows unset = unset_now context b fact (extends.holders shown.holders) (unset refl)
 

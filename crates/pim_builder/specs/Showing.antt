@@ -51,38 +51,38 @@ abbrev pub IsPassedOn : ReplayState → Option ℕ → ℕ → Type 0
 IsPassedOn r None n = owner_of r.state n ≡ None
 IsPassedOn r (Some k) n = Has (program_of r) k n ⊎ ((owner_of r.state n ≡ None) × (awaited r k ≢ Some n))
 
--- what a fact says is so of the task and the mutex; `tasks` has the tasks of threads
-abbrev pub ShowsWhat : ReplayState → (ℕ → ℕ) → (ℕ → Option ℕ) → What → Option ℕ → Option ℕ → Type 0
-ShowsWhat r priority tasks Granted task mutex = HoldsOf (λ k. HoldsOf (Has (program_of r) k) mutex) task
-ShowsWhat r priority tasks Waits task mutex = HoldsOf (λ k. HoldsOf (λ n. awaited r k ≡ Some n) mutex) task
-ShowsWhat r priority tasks GaveUp task mutex = HoldsOf (λ k. awaited r k ≡ None) task
-ShowsWhat r priority tasks (Released next) task mutex = HoldsOf (IsPassedOn r (option_and_then tasks next)) mutex
-ShowsWhat r priority tasks (Level level) task mutex = HoldsOf (HasBase r (priority level)) task
-ShowsWhat r priority tasks (Ceiling level) task mutex = HoldsOf (HasCeiling r (priority level)) mutex
+-- what a fact says of a thread is so: `tasks` has the tasks of threads, `mutexes` the numbers of the log's mutexes
+abbrev pub ShowsWhat : ReplayState → (ℕ → ℕ) → (ℕ → Option ℕ) → (ℕ → Option ℕ) → What → ℕ → Type 0
+ShowsWhat r priority tasks mutexes (Granted m) t = HoldsOf (λ k. HoldsOf (Has (program_of r) k) (mutexes m)) (tasks t)
+ShowsWhat r priority tasks mutexes (Waits m) t = HoldsOf (λ k. HoldsOf (λ n. awaited r k ≡ Some n) (mutexes m)) (tasks t)
+ShowsWhat r priority tasks mutexes (GaveUp m) t = HoldsOf (λ k. awaited r k ≡ None) (tasks t)
+ShowsWhat r priority tasks mutexes (Released m next) t = HoldsOf (IsPassedOn r (option_and_then tasks next)) (mutexes m)
+ShowsWhat r priority tasks mutexes (Level level) t = HoldsOf (HasBase r (priority level)) (tasks t)
+ShowsWhat r priority tasks mutexes (Ceiling m level) t = HoldsOf (HasCeiling r (priority level)) (mutexes m)
 
 -- the trace shows a fact, of those that its thread and its mutex are now
 abbrev pub Shows : Context → TraceBuilder → Fact → Type 0
 Shows context builder fact =
-    ShowsWhat builder.pieces.piece.replay (priority_of context.priorities.now) (task_now context builder) fact.what
-    (task_now context builder fact.thread) (mutex_now context builder fact.mutex)
+    ShowsWhat builder.pieces.piece.replay (priority_of context.priorities.now) (task_now context builder)
+    (mutex_now context builder) fact.what fact.thread
 
 -- a level or a ceiling is set, which is in the trace only if its thread or mutex takes part by then
 abbrev pub IsSetting : What → Type 0
-IsSetting Granted = ⊥
-IsSetting (Released next) = ⊥
-IsSetting Waits = ⊥
-IsSetting GaveUp = ⊥
-IsSetting (Ceiling level) = Unit {0}
+IsSetting (Granted m) = ⊥
+IsSetting (Released m next) = ⊥
+IsSetting (Waits m) = ⊥
+IsSetting (GaveUp m) = ⊥
+IsSetting (Ceiling m level) = Unit {0}
 IsSetting (Level level) = Unit {0}
 
 -- the level or the ceiling is set of a thread or a mutex that takes no part
-abbrev pub SetsNone : What → Option ℕ → Option ℕ → Type 0
-SetsNone Granted task mutex = ⊥
-SetsNone (Released next) task mutex = ⊥
-SetsNone Waits task mutex = ⊥
-SetsNone GaveUp task mutex = ⊥
-SetsNone (Ceiling level) task mutex = mutex ≡ None
-SetsNone (Level level) task mutex = task ≡ None
+abbrev pub SetsNone : (ℕ → Option ℕ) → (ℕ → Option ℕ) → What → ℕ → Type 0
+SetsNone tasks mutexes (Granted m) t = ⊥
+SetsNone tasks mutexes (Released m next) t = ⊥
+SetsNone tasks mutexes (Waits m) t = ⊥
+SetsNone tasks mutexes (GaveUp m) t = ⊥
+SetsNone tasks mutexes (Ceiling m level) t = mutexes m ≡ None
+SetsNone tasks mutexes (Level level) t = tasks t ≡ None
 
 -- no two threads have one number at a time
 abbrev pub TaskLaw : Type 0

@@ -93,10 +93,9 @@ mutex_at context stage m = held (mutexes_after context stage.appeared) m (number
 -- at a stage the trace shows a fact, or that sets the level or ceiling of one who takes no part by then
 abbrev pub IsShownAt : Context → Fact → Stage → Type 0
 IsShownAt context fact stage =
-    let task = task_at context stage fact.thread in
-    let mutex = mutex_at context stage fact.mutex in
-    ShowsWhat stage.point.piece.replay (priority_of context.priorities.now) (task_at context stage) fact.what task mutex
-    ⊎ SetsNone fact.what task mutex
+    ShowsWhat stage.point.piece.replay (priority_of context.priorities.now) (task_at context stage) (mutex_at context stage)
+    fact.what fact.thread
+    ⊎ SetsNone (task_at context stage) (mutex_at context stage) fact.what fact.thread
 
 -- A trace comes from its begin to this stage by these facts, the latest first: from the stage of the one before the latest,
 -- or from the begin, by steps at the time of the latest, which is shown here.

@@ -125,24 +125,29 @@ impl TraceBuilder {
         ensures { IsTrue result → Shows context.now self.now fact.now }
     {
         let task = self.task_of(context, fact.thread);
-        let mutex = self.mutex_of(context, fact.mutex);
         let priorities = context.priorities;
         let replay = self.pieces.replay();
         match fact.what {
-            What::Granted => is_granted(replay, task, mutex),
-            What::Waits => is_awaited(replay, task, mutex),
-            What::GaveUp => is_done_waiting(replay, task),
-            What::Released(next) => is_released(replay, self.next_task(context, next), mutex),
+            What::Granted(mutex) => is_granted(replay, task, self.mutex_of(context, mutex)),
+            What::Waits(mutex) => is_awaited(replay, task, self.mutex_of(context, mutex)),
+            What::GaveUp(_) => is_done_waiting(replay, task),
+            What::Released { mutex, next } => {
+                let next = self.next_task(context, next);
+                is_released(replay, next, self.mutex_of(context, mutex))
+            }
             What::Level(level) => has_base(replay, task, priorities.of_level(level)),
-            What::Ceiling(level) => has_ceiling(replay, mutex, priorities.of_level(level)),
+            What::Ceiling { mutex, level } => {
+                let ceiling = priorities.of_level(level);
+                has_ceiling(replay, self.mutex_of(context, mutex), ceiling)
+            }
         }
     }
 
     /// Makes the steps of a fact, and returns whether it is in the trace.
     fn make(&mut self, context: &Context, fact: &Fact, now: &Now) -> Result<bool, ImportFault>
         ensures unused { IfOk result (λ is_used. is_used ≡ false → IsSetting fact.now.what) }
-        ensures unset { IfOk result (λ is_used. is_used ≡ false → SetsNone fact.now.what
-            (task_now context.now self.new fact.now.thread) (mutex_now context.now self.new fact.now.mutex)) }
+        ensures unset { IfOk result (λ is_used. is_used ≡ false → SetsNone (task_now context.now self.new)
+            (mutex_now context.now self.new) fact.now.what fact.now.thread) }
         ensures on { IfOk result (λ _. Extends context.now now.now.time self.old self.new) }
         ensures fault { IfErr result (NamesOnly now.now.number) }
     {
@@ -156,35 +161,44 @@ impl TraceBuilder {
                 self.pieces.observe(&Observation::Base(task, prio), now)?;
                 Ok(true)
             }
-            What::Ceiling(level) => {
-                let Some(mutex) = self.mutex_of(context, fact.mutex) else {
+            What::Ceiling { mutex, level } => {
+                let Some(mutex) = self.mutex_of(context, mutex) else {
                     return Ok(false);
                 };
                 let ceiling = context.priorities.of_level(level);
                 self.pieces.set_ceiling(mutex, ceiling, now)?;
                 Ok(true)
             }
-            What::Granted | What::Waits | What::GaveUp | What::Released(_) => {
-                self.act(context, fact, now)?;
+            What::Granted(mutex)
+            | What::Waits(mutex)
+            | What::GaveUp(mutex)
+            | What::Released { mutex, .. } => {
+                self.act(context, fact, mutex, now)?;
                 Ok(true)
             }
         }
     }
 
-    /// Makes the steps of a fact of a thread and a mutex, which appear first if they haven't.
-    fn act(&mut self, context: &Context, fact: &Fact, now: &Now) -> Result<(), ImportFault>
+    /// Makes the steps of a fact of a thread and this mutex, which appear first if they haven't.
+    fn act(
+        &mut self,
+        context: &Context,
+        fact: &Fact,
+        mutex: u32,
+        now: &Now,
+    ) -> Result<(), ImportFault>
         ensures on { IfOk result (λ _. Extends context.now now.now.time self.old self.new) }
         ensures fault { IfErr result (NamesOnly now.now.number) }
     {
         let task = self.enter_thread(context, fact.thread, now)?;
-        let mutex = self.enter_mutex(context, fact.mutex, now)?;
+        let mutex = self.enter_mutex(context, mutex, now)?;
         match fact.what {
-            What::Granted => {
+            What::Granted(_) => {
                 let grant = Observation::Granted(task, mutex);
                 self.pieces.observe_grant(&Some(task), mutex, &grant, now)
             }
-            What::Waits => self.pieces.observe(&Observation::Waits(task, mutex), now),
-            What::Released(next) => {
+            What::Waits(_) => self.pieces.observe(&Observation::Waits(task, mutex), now),
+            What::Released { next, .. } => {
                 let next = self.next_task(context, next);
                 self.pieces.release(task, mutex, next, now)
             }

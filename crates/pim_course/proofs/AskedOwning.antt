@@ -16,17 +16,17 @@ use Rattle.pim_log.specs.declared.fields.Fields.{Fields}
 use Rattle.pim_log.specs.declared.record.Record.{Record}
 use Rattle.pim_facts.specs.Covering.{Covers}
 use Rattle.pim_facts.specs.Levels.{id_of}
-use Rattle.pim_facts.specs.Naming.{IsNamed, Names, last_begun}
+use Rattle.pim_facts.specs.Naming.{IsNamed, Names, last_begun, named_task}
 use Rattle.pim_facts.specs.declared.ids.Ids.{Ids}
 use Rattle.pim_facts.proofs.Naming.{last-there, still-named}
-use Rattle.pim_course.proofs.NextOwning.{AsRead, begin-found, is-not, lacks-step, next-there, record-step}
+use Rattle.pim_course.proofs.NextOwning.{AsRead, begin-found, if-some, is-not, lacks-step, next-there, record-step}
 use Rattle.pim_course.specs.AskedOwners.{AreTimed, FindsAsked, FindsAskedFrom, HasAsked, IsAsked, IsAskedBy, IsTimed}
 use Rattle.pim_course.specs.AskedOwners.{KnowsCalls}
 use Rattle.pim_course.specs.AskedOwners.{asked_task, begin_of, begun_before, begun_or_later, first_timed, granted_soonest}
 use Rattle.pim_course.specs.AskedOwners.{has_task, is_after, may_own, named_owner, next_begin, next_other}
 use Rattle.pim_course.specs.Kept.{kept_by, kept_of}
 use Rattle.pim_course.specs.NextOwners.{CoversThose, HasRoom, IsKeepable, Knows, granted_by, grants, is_granted, is_that}
-use Rattle.pim_course.specs.NextOwners.{next_granted}
+use Rattle.pim_course.specs.NextOwners.{next_granted, set_at}
 use Rattle.pim_course.specs.declared.next_owners.Coming.{Coming}
 use Rattle.pim_course.specs.declared.next_owners.Kept.{Kept}
 use Rattle.pim_course.specs.declared.next_owners.Kept.TheVariants.{Owner, Later}
@@ -51,7 +51,7 @@ timed-here : (ids : Ids) (m : ℕ) (r : Record) → IsTimed r → grants ids m r
     (is_some r.time && r.thread == r.thread) ≡ true
 timed-here ids m r timed is =
     let some : is_some r.time ≡ true = some-true r.time (timed
-    (both-true (is_granted r.event) (id_of ids r.number == m) is).0) in
+    (both-true (is_granted r.event) (is_that (id_of ids r.number) m) is).0) in
     ap (λ b. b && r.thread == r.thread) some ∙ self-eq r.thread
 
 -- The next GRANTED of a mutex is the first record of its thread that has a time, if that is a GRANTED of the mutex.
@@ -97,19 +97,19 @@ same-either false o = refl
 beginning-step : (ids : Ids) (r : Record) (behind : List Record) (t : ℕ) (xs ys zs : List (Option ℕ)) → IsTimed r →
     get_or xs t None ≡ begun_before ids t behind →
     get_or ys t None ≡ cond (is_some r.time && r.thread == t) None (get_or xs t None) →
-    zs ≡ cond (is_granted r.event) (set ys r.thread (cond (is_some (began_of r)) None (Some (id_of ids r.number)))) ys →
+    zs ≡ cond (is_granted r.event) (set ys r.thread (cond (is_some (began_of r)) None (id_of ids r.number))) ys →
     t < length ys → get_or zs t None ≡ begun_before ids t (r ∷ behind)
 beginning-step ids r behind t xs ys zs timed h between learned lt =
     let test : Bool = is_some r.time && r.thread == t in
     let said : Bool = is_some (began_of r) in
-    let v : Option ℕ = cond said None (Some (id_of ids r.number)) in
+    let v : Option ℕ = cond said None (id_of ids r.number) in
     let behind-it : begun_before ids t (r ∷ behind) ≡ cond test (cond said None (granted_by ids r))
     (begun_before ids t behind) =
     and-then-cond _ test r (first_timed t behind) in
     elim (is_granted r.event) as (λ g. is_granted r.event ≡ g → get_or zs t None ≡ begun_before ids t (r ∷ behind)) [
       | true ↦ λ g.
           let z : zs ≡ set ys r.thread v = learned ∙ ap (λ b. cond b (set ys r.thread v) ys) g in
-          let by : granted_by ids r ≡ Some (id_of ids r.number) = ap (λ b. cond b (Some (id_of ids r.number)) None) g in
+          let by : granted_by ids r ≡ id_of ids r.number = ap (λ b. cond b (id_of ids r.number) None) g in
           elim (cases_eq t r.thread) [
             | inl same ↦
                 let yes : test ≡ true =
@@ -128,7 +128,7 @@ beginning-step ids r behind t xs ys zs timed h between learned lt =
           ]
       | false ↦ λ g.
           let z : zs ≡ ys = learned ∙ ap (λ b. cond b (set ys r.thread v) ys) g in
-          let by : granted_by ids r ≡ None = ap (λ b. cond b (Some (id_of ids r.number)) None) g in
+          let by : granted_by ids r ≡ None = ap (λ b. cond b (id_of ids r.number) None) g in
           let same : cond test None (get_or xs t None) ≡
           cond test (cond said None (granted_by ids r)) (begun_before ids t behind) =
           elim test as
@@ -214,16 +214,20 @@ turned true false n m e = refl
 granted-not : (ids : Ids) (m : ℕ) (r : Record) → grants ids m r ≡ false → is_that (granted_by ids r) m ≡ false
 granted-not ids m r e =
     elim (is_granted r.event) as
-    (λ g. (g && id_of ids r.number == m) ≡ false → is_that (cond g (Some (id_of ids r.number)) None) m ≡ false) [
+    (λ g. (g && is_that (id_of ids r.number) m) ≡ false → is_that (cond g (id_of ids r.number) None) m ≡ false) [
       | true ↦ λ e. e
       | false ↦ λ e. refl
     ] e
 
+that-is : (o : Option ℕ) (n : ℕ) → is_that o n ≡ true → o ≡ Some n
+that-is None n e = cc
+that-is (Some k) n e = ap Some (eqb-true k n e)
+
 -- a record that grants a mutex says so
 granted-is : (ids : Ids) (m : ℕ) (r : Record) → grants ids m r ≡ true → granted_by ids r ≡ Some m
 granted-is ids m r e =
-    let both = both-true (is_granted r.event) (id_of ids r.number == m) e in
-    ap (λ b. cond b (Some (id_of ids r.number)) None) both.0 ∙ ap Some (eqb-true (id_of ids r.number) m both.1)
+    let both = both-true (is_granted r.event) (is_that (id_of ids r.number) m) e in
+    ap (λ b. cond b (id_of ids r.number) None) both.0 ∙ that-is (id_of ids r.number) m both.1
 
 -- a record of the thread of the next GRANTED, before that: the call began behind it, unless the GRANTED says when
 begun-behind : (ids : Ids) (m : ℕ) (behind : List Record) (g : Record) → AreTimed behind →
@@ -269,13 +273,20 @@ begun-behind ids m behind g timed is =
     other false m by b e =
         ap (λ t. cond t (Some (2 ^ 64 - 1)) (cond (is_some b) b (cond t None (Some (2 ^ 64 - 1))))) e
 
+-- what is set at another place, or at none, leaves this one as it is
+set-not : (place : Option ℕ) (m : ℕ) (is : Option ℕ) (ys : List (Option ℕ)) → is_that place m ≡ false →
+    get_or (set_at place is ys) m None ≡ get_or ys m None
+set-not None m is ys not-that = refl
+set-not (Some n) m is ys not-that =
+    get_or-set_other ys n m is None (λ e. let that : (n == m) ≡ true = eq-eqb n m (sym e) in cc)
+
 -- when the call began by which a mutex is granted next, behind one more record
 began-step : (ids : Ids) (r : Record) (behind : List Record) (m : ℕ) (xs ys zs : List (Option ℕ)) (of next : Option ℕ) →
     IsTimed r → AreTimed behind → get_or xs m None ≡ next_begin ids m behind → of ≡ begun_before ids r.thread behind →
     next ≡ next_granted ids m behind →
     get_or ys m None ≡ cond (is_some r.time && is_that of m && is_that next r.thread) (Some (2 ^ 64 - 1))
     (get_or xs m None) →
-    zs ≡ cond (is_granted r.event) (set ys (id_of ids r.number) (began_of r)) ys → m < length ys →
+    zs ≡ cond (is_granted r.event) (set_at (id_of ids r.number) (began_of r) ys) ys → m < length ys →
     get_or zs m None ≡ next_begin ids m (r ∷ behind)
 began-step ids r behind m xs ys zs of next timed all h of-is next-is between learned lt =
     elim (grants ids m r) as
@@ -296,17 +307,17 @@ began-step ids r behind m xs ys zs of next timed all h of-is next-is between lea
   where
     granted : grants ids m r ≡ true → get_or zs m None ≡ begin_of ids m (r ∷ behind) r
     granted has =
-        let both = both-true (is_granted r.event) (id_of ids r.number == m) has in
-        let is : id_of ids r.number ≡ m = eqb-true (id_of ids r.number) m both.1 in
-        let z : zs ≡ set ys (id_of ids r.number) (began_of r) =
-        learned ∙ ap (λ b. cond b (set ys (id_of ids r.number) (began_of r)) ys) both.0 in
+        let both = both-true (is_granted r.event) (is_that (id_of ids r.number) m) has in
+        let is : id_of ids r.number ≡ Some m = that-is (id_of ids r.number) m both.1 in
+        let z : zs ≡ set ys m (began_of r) =
+        learned ∙ ap (λ b. cond b (set_at (id_of ids r.number) (began_of r) ys) ys) both.0
+        ∙ ap (λ place. set_at place (began_of r) ys) is in
         let soonest : granted_soonest ids r.thread (r ∷ behind) ≡ Some m =
         and-then-cond (granted_by ids) (is_some r.time && r.thread == r.thread) r (first_timed r.thread behind)
         ∙ ap (λ b. cond b (granted_by ids r) (granted_soonest ids r.thread behind)) (timed-here ids m r timed has)
         ∙ granted-is ids m r has in
         ap (λ l. get_or l m None) z
-        ∙ subst (λ k. k < length ys → get_or (set ys (id_of ids r.number) (began_of r)) k None ≡ began_of r) is
-        (get_or-set_same ys (id_of ids r.number) (began_of r) None) lt
+        ∙ get_or-set_same ys m (began_of r) None lt
         ∙ or-none (began_of r)
         ∙ sym (ap (λ o. cond (is_some (began_of r)) (began_of r) (cond (is_that o m) None (Some (2 ^ 64 - 1)))) soonest
         ∙ ap (λ t. cond (is_some (began_of r)) (began_of r) (cond t None (Some (2 ^ 64 - 1)))) (self-eq m))
@@ -314,11 +325,9 @@ began-step ids r behind m xs ys zs of next timed all h of-is next-is between lea
     same : grants ids m r ≡ false → get_or zs m None ≡ get_or ys m None
     same isnt =
         elim (is_granted r.event) as
-        (λ g. (g && id_of ids r.number == m) ≡ false → zs ≡ cond g (set ys (id_of ids r.number) (began_of r)) ys →
+        (λ g. (g && is_that (id_of ids r.number) m) ≡ false → zs ≡ cond g (set_at (id_of ids r.number) (began_of r) ys) ys →
         get_or zs m None ≡ get_or ys m None) [
-          | true ↦ λ other l. ap (λ l. get_or l m None) l
-              ∙ get_or-set_other ys (id_of ids r.number) m (began_of r) None
-              (λ e. let is : (id_of ids r.number == m) ≡ true = eq-eqb (id_of ids r.number) m (sym e) in cc)
+          | true ↦ λ other l. ap (λ l. get_or l m None) l ∙ set-not (id_of ids r.number) m (began_of r) ys other
           | false ↦ λ other l. ap (λ l. get_or l m None) l
         ] isnt learned
 
@@ -367,19 +376,19 @@ pub calls-step : (ids : Ids) (r : Record) (behind : List Record) (old mid new : 
     (Some (2 ^ 64 - 1)) (get_or old.began.items m None)) →
     ((t : ℕ) → get_or mid.beginning.items t None ≡
     cond (is_some r.time && r.thread == t) None (get_or old.beginning.items t None)) →
-    (mutex : ℕ) → mutex ≡ id_of ids r.number →
-    new.began.items ≡ cond (is_granted r.event) (set mid.began.items mutex (began_of r)) mid.began.items →
+    (mutex : Option ℕ) → mutex ≡ id_of ids r.number →
+    new.began.items ≡ cond (is_granted r.event) (set_at mutex (began_of r) mid.began.items) mid.began.items →
     new.beginning.items ≡ cond (is_granted r.event)
-    (set mid.beginning.items r.thread (cond (is_some (began_of r)) None (Some mutex))) mid.beginning.items →
+    (set mid.beginning.items r.thread (cond (is_some (began_of r)) None mutex)) mid.beginning.items →
     KnowsCalls ids (r ∷ behind) new
 calls-step ids r behind old mid new room knows timed above there calls long longer began beginning mutex is learned
     learned-too =
     let learned-began =
-    subst (λ n. new.began.items ≡ cond (is_granted r.event) (set mid.began.items n (began_of r)) mid.began.items) is
+    subst (λ n. new.began.items ≡ cond (is_granted r.event) (set_at n (began_of r) mid.began.items) mid.began.items) is
     learned in
     let learned-beginning =
     subst (λ n. new.beginning.items ≡ cond (is_granted r.event)
-    (set mid.beginning.items r.thread (cond (is_some (began_of r)) None (Some n))) mid.beginning.items) is learned-too in
+    (set mid.beginning.items r.thread (cond (is_some (began_of r)) None n)) mid.beginning.items) is learned-too in
     record {
       began = λ m lt.
           let within : m < length old.began.items = omega (arith, room.began) in
@@ -527,11 +536,21 @@ asked-again ids m r before behind kept again last covers same (Some (Some task))
     (chosen-in (has_task ids task) (next_other ids m r.thread behind) (other-there ids m r.thread behind covers)))) ∙ is
 
 -- who is named by a task is the last thread that began with it before
-pub named-last : (ids : Ids) (m process : ℕ) (task named by : Option ℕ) (before : List Record) →
+named-last : (ids : Ids) (m process : ℕ) (task named by : Option ℕ) (before : List Record) →
     named ≡ named_owner ids m process by → IfSome task (λ t. by ≡ last_begun t before) →
     IfSome task (λ t. named ≡ named_owner ids m process (last_begun t before))
 named-last ids m process None named by before owner is = tt
 named-last ids m process (Some t) named by before owner is = owner ∙ ap (named_owner ids m process) is
+
+-- what is kept of a REQUEST of which a log says whom it names
+pub asked-named : (ids : Ids) (id : Option ℕ) (r : Record) (before behind : List Record) (kept : Kept)
+    (named by : Option ℕ) → named ≡ option_and_then (λ m. named_owner ids m r.process by) id →
+    IfSome (named_task r.event) (λ task. by ≡ last_begun task before) →
+    IfSome id (λ m. IfSome (named_task r.event) (λ task. named ≡ named_owner ids m r.process (last_begun task before)) →
+    IsAsked ids m r before behind kept) → IfSome id (λ m. IsAsked ids m r before behind kept)
+asked-named ids None r before behind kept named by owner last asked = tt
+asked-named ids (Some m) r before behind kept named by owner last asked =
+    asked (named-last ids m r.process (named_task r.event) named by before owner last)
 
 asked-before : (bytes : List ℕ) (ids : Ids) (k : ℕ) (old new : NextOwners) → kept_of new k ≡ kept_of old k →
     FindsAsked bytes ids old k → FindsAsked bytes ids new k
@@ -543,7 +562,8 @@ asked-before bytes ids k old new e finds =
       is = finds.is;
       earlier = finds.earlier;
       are = finds.are;
-      asked = subst (IsAsked ids (id_of ids k) finds.r finds.before finds.behind) (sym e) finds.asked;
+      asked = subst (λ kept. IfSome (id_of ids k) (λ m. IsAsked ids m finds.r finds.before finds.behind kept)) (sym e)
+          finds.asked;
     }
 
 -- a record with a number was read, before those behind it
@@ -553,7 +573,7 @@ pub asked-step : (bytes : List ℕ) (ids : Ids) (number slot : ℕ) (r : Record)
     (has : HasAsked bytes ids (number + 1) old before) →
     (as_read : AsRead ids number r has.found.behind old new after kept) → KnowsCalls ids (r ∷ has.found.behind) after →
     (named : IsNamed bytes old.kept.items number r) →
-    IsAsked ids (id_of ids number) r named.before has.found.behind kept → HasAsked bytes ids number new after
+    IfSome (id_of ids number) (λ m. IsAsked ids m r named.before has.found.behind kept) → HasAsked bytes ids number new after
 asked-step bytes ids number slot r old new before after kept covers numbered is above few there has as_read calls named
     asked =
     let short : number ≤ end_of (header_of bytes) = omega (arith, numbered.below) in
@@ -579,8 +599,10 @@ asked-step bytes ids number slot r old new before after kept covers numbered is 
           is = record { slot = slot; numbered = numbered; is = is };
           earlier = named.are;
           are = has.found.are;
-          asked = asked-again ids (id_of ids number) r named.before has.found.behind kept (kept_of new number) last
-              has.found.covers as_read.same (asked_task r.event) asked;
+          asked = if-some (λ m. IsAsked ids m r named.before has.found.behind kept)
+              (λ m. IsAsked ids m r named.before has.found.behind (kept_of new number)) (id_of ids number)
+              (λ m was. asked-again ids m r named.before has.found.behind kept (kept_of new number) last has.found.covers
+              as_read.same (asked_task r.event) was) asked;
         })
         | inr other ↦ asked-before bytes ids k old new (ap kept_by (as_read.rest k other))
             (has.asked k at (omega arith) is-numbered)

@@ -87,12 +87,12 @@ lasts-up n s m up =
 
 -- how many critical sections this can begin
 abbrev begun : What → ℕ
-begun Granted = 1
-begun Waits = 1
-begun GaveUp = 0
-begun (Released next) = 0
+begun (Granted m) = 1
+begun (Waits m) = 1
+begun (GaveUp m) = 0
+begun (Released m next) = 0
 begun (Level level) = 0
-begun (Ceiling ceiling) = 0
+begun (Ceiling m level) = 0
 
 -- how many what happened can begin
 abbrev pub begun_by : List Happening → ℕ
@@ -102,36 +102,36 @@ begun_by (happened ∷ told) = begun happened.what + begun_by told
 same-up : (n : ℕ) (s : Sections) → AreUpTo n s → AreUpTo (n + 0) s
 same-up n s up = more-up n (n + 0) s (omega arith) up
 
-step-up : (n : ℕ) (s : Sections) (what : What) (t m : ℕ) → AreUpTo n s → AreUpTo (n + begun what) (sections_after s what t m)
-step-up n s Granted t m up =
+step-up : (n : ℕ) (s : Sections) (what : What) (t : ℕ) → AreUpTo n s → AreUpTo (n + begun what) (sections_after s what t)
+step-up n s (Granted m) t up =
     let x : AreUpTo (n + 1) (lasts_at s m) = lasts-up n s m up in
     record { count = x.count; lasting = x.lasting; began = but-up (n + 1) t None s.began tt x.began }
-step-up n s Waits t m up =
+step-up n s (Waits m) t up =
     let x : AreUpTo (n + 1) (lasts_at s m) = lasts-up n s m up in
     record {
       count = x.count;
       lasting = x.lasting;
       began = but-up (n + 1) t (Some (number_at s m)) s.began (number-up n s m up) x.began;
     }
-step-up n s GaveUp t m up =
+step-up n s (GaveUp m) t up =
     let x : AreUpTo (n + 0) s = same-up n s up in
     record { count = x.count; lasting = x.lasting; began = but-up (n + 0) t None s.began tt x.began }
-step-up n s (Released None) t m up =
+step-up n s (Released m None) t up =
     let x : AreUpTo (n + 0) s = same-up n s up in
     record { count = x.count; lasting = but-up (n + 0) m None s.lasting tt x.lasting; began = x.began }
-step-up n s (Released (Some next)) t m up =
+step-up n s (Released m (Some next)) t up =
     let x : AreUpTo (n + 0) s = same-up n s up in record { count = x.count; lasting = x.lasting; began = x.began }
-step-up n s (Level level) t m up = same-up n s up
-step-up n s (Ceiling ceiling) t m up = same-up n s up
+step-up n s (Level level) t up = same-up n s up
+step-up n s (Ceiling m level) t up = same-up n s up
 
-number-of-up : (n : ℕ) (s : Sections) (what : What) (t m : ℕ) → AreUpTo n s →
-    IfSome (number_of s what t m) (λ k. k ≤ n + begun what)
-number-of-up n s Granted t m up = number-up n s m up
-number-of-up n s Waits t m up = number-up n s m up
-number-of-up n s GaveUp t m up = (same-up n s up).began t
-number-of-up n s (Released next) t m up = (same-up n s up).lasting m
-number-of-up n s (Level level) t m up = tt
-number-of-up n s (Ceiling ceiling) t m up = (same-up n s up).lasting m
+number-of-up : (n : ℕ) (s : Sections) (what : What) (t : ℕ) → AreUpTo n s →
+    IfSome (number_of s what t) (λ k. k ≤ n + begun what)
+number-of-up n s (Granted m) t up = number-up n s m up
+number-of-up n s (Waits m) t up = number-up n s m up
+number-of-up n s (GaveUp m) t up = (same-up n s up).began t
+number-of-up n s (Released m next) t up = (same-up n s up).lasting m
+number-of-up n s (Level level) t up = tt
+number-of-up n s (Ceiling m level) t up = (same-up n s up).lasting m
 
 -- the facts, one after the other
 facts-up : (n : ℕ) (facts : List Fact) (from to : Sections) → AreNumbered facts from to → AreUpTo n from →
@@ -142,10 +142,10 @@ facts-up n (fact ∷ facts) from to led up =
     let rest : ℕ = begun_by (map happening facts) in
     let same : n + b + rest ≤ n + (b + rest) = omega arith in
     let own : n + b ≤ n + (b + rest) = omega arith in
-    let step : AreUpTo (n + b) (after_numbered from fact) = step-up n from fact.what fact.thread fact.mutex up in
+    let step : AreUpTo (n + b) (after_numbered from fact) = step-up n from fact.what fact.thread up in
     let x = facts-up (n + b) facts (after_numbered from fact) to led.1 step in
     let here : IfSome fact.section (λ k. k ≤ n + b) =
-    subst (λ o. IfSome o (λ k. k ≤ n + b)) (sym led.0.section) (number-of-up n from fact.what fact.thread fact.mutex up) in (
+    subst (λ o. IfSome o (λ k. k ≤ n + b)) (sym led.0.section) (number-of-up n from fact.what fact.thread up) in (
       more-up (n + b + rest) (n + (b + rest)) to same x.0,
       (some-more fact.section (n + b) (n + (b + rest)) own here, facts-more (n + b + rest) (n + (b + rest)) facts same x.1),
     )
@@ -163,9 +163,10 @@ most-if : (n : ℕ) (b : Bool) (x y : List Happening) → begun_by x ≤ n → b
 most-if n true x y is other = is
 most-if n false x y is other = other
 
-most-each : (o : Option ℕ) (f : ℕ → List Happening) → ((k : ℕ) → begun_by (f k) ≤ 0) → begun_by (option_map_or f o []) ≤ 0
-most-each None f all = none
-most-each (Some k) f all = all k
+most-each : (n : ℕ) (o : Option ℕ) (f : ℕ → List Happening) → ((k : ℕ) → begun_by (f k) ≤ n) →
+    begun_by (option_map_or f o []) ≤ n
+most-each n None f all = omega arith
+most-each n (Some k) f all = all k
 
 most-both : (a b : ℕ) (x y : List Happening) → begun_by x ≤ a → begun_by y ≤ b → begun_by (x ++ y) ≤ a + b
 most-both a b [] y first next = let is : begun_by y ≤ a + b = omega (arith, next) in is
@@ -178,14 +179,14 @@ most-both a b (happened ∷ x) y first next =
 most-ceiling : (sources : Sources) (world : World) (t m : ℕ) (said : Mutex) →
     begun_by (ceiling_told sources world t m said) ≤ 0
 most-ceiling sources world t m said =
-    most-each (ceiling_by_log (family_in sources m) said) _ (λ ceiling. most-if 0 _ [] (did (Ceiling ceiling) t m) none none)
+    most-each 0 (ceiling_by_log (family_in sources m) said) _ (λ ceiling. most-if 0 _ [] (did (Ceiling m ceiling) t) none none)
 
 most-gave-up : (world : World) (t : ℕ) (but : Option ℕ) → begun_by (gave_up_told world t but) ≤ 0
-most-gave-up world t but = most-each (world.awaits t) _ (λ m. most-if 0 _ [] (did GaveUp t m) none none)
+most-gave-up world t but = most-each 0 (world.awaits t) _ (λ m. most-if 0 _ [] (did (GaveUp m) t) none none)
 
 most-freed : (world : World) (m : ℕ) (next owner : Option ℕ) →
     begun_by (option_map_or (λ t. released_told world t m next) owner []) ≤ 0
-most-freed world m next owner = most-each owner _ (λ t. none)
+most-freed world m next owner = most-each 0 owner _ (λ t. none)
 
 most-called : (sources : Sources) (world : World) (t m : ℕ) (said : Mutex) →
     begun_by (ceiling_told sources world t m said ++ gave_up_told world t (Some m)) ≤ 0
@@ -201,7 +202,7 @@ told-most sources world depth number t id (event.Name _) = none-or-one
 told-most sources world depth number t id event.Create = none-or-one
 told-most sources world depth number t id event.Exit = none-or-one
 told-most sources world depth number t id (event.Priority _ priority) =
-    most-if 1 _ [] (did (Level (level_by priority (world.level id))) id 0) none-or-one none-or-one
+    most-if 1 _ [] (did (Level (level_by priority (world.level id))) id) none-or-one none-or-one
 told-most sources world depth number t id event.Fork = none-or-one
 told-most sources world depth number t id (event.Child _) = none-or-one
 told-most sources world depth number t id event.Exec = none-or-one
@@ -218,15 +219,15 @@ told-most sources world depth number t id (event.Ceiling said) =
     let to : begun_by (ceiling_told sources world t id said) ≤ 1 = omega (arith, is) in to
 told-most sources world depth number t id (event.Request said _) =
     most-if 1 _ [] _ none-or-one
-    (most-both 0 1 _ (did Waits t id) (most-called sources world t id said) one)
+    (most-both 0 1 _ (did (Waits id) t) (most-called sources world t id said) one)
 told-most sources world depth number t id (event.Granted said _ _) =
     most-if 1 _ [] _ none-or-one
-    (most-both 0 1 _ (did Granted t id)
+    (most-both 0 1 _ (did (Granted id) t)
     (most-both 0 0 _ (freed_told world id (Some t)) (most-called sources world t id said)
     (most-freed world id (Some t) (world.owner id)))
     one)
 told-most sources world depth number t id (event.Failed _ _ _) =
-    most-if 1 _ [] (did GaveUp t id) none-or-one none-or-one
+    most-if 1 _ (did (GaveUp id) t) [] none-or-one none-or-one
 told-most sources world depth number t id (event.Release _ _) =
     most-if 1 _ [] _ none-or-one (most-both 0 1 (gave_up_told world t None) _ (most-gave-up world t None) none-or-one)
 told-most sources world depth number t id (event.ReleaseFailed _) = none-or-one
@@ -262,8 +263,8 @@ up-by bytes sources number n old new covers all below goes up =
     has-those bytes sources.ids old goes.slot number goes.found covers all below goes.numbered goes.is in
     goes-up n old new
     (subst (λ told. begun_by told ≤ 1) (sym goes.told)
-    (told-most sources (world_of old) (depths_of old) goes.found.number goes.found.thread
-    (id_of sources.ids goes.found.number) goes.found.event))
+    (most-each 1 (id_of sources.ids goes.found.number) _ (λ id.
+    told-most sources (world_of old) (depths_of old) goes.found.number goes.found.thread id goes.found.event)))
     (goes.sections those) up
 
 -- behind a request that the log lacks
@@ -273,5 +274,5 @@ pub up-added : (n : ℕ) (old new : Course) (request : Request) → happened_in 
 up-added n old new request told numbered up =
     goes-up n old new
     (subst (λ told. begun_by told ≤ 1) (sym told)
-    (most-if 1 _ (did Waits request.thread request.mutex) [] one none-or-one))
+    (most-if 1 _ (did (Waits request.mutex) request.thread) [] one none-or-one))
     numbered up

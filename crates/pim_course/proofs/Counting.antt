@@ -150,14 +150,19 @@ counted-over n t m f s x is began waiting c =
           ap (λ h. h k) waiting ∙ less-over n t m f s.waiting (waiter-below n t m f c.below is) is c.waiting k;
     }
 
+-- if this is the begin of a wait, that is of a thread below n
+abbrev IsBelow : ℕ → What → ℕ → Type 0
+IsBelow n (Waits m) t = t < n
+IsBelow n _ t = Unit {0}
+
 -- each wait that begins is of a thread below n
 abbrev pub AreBelow : ℕ → List Happening → Type 0
-AreBelow n told = AllByRecursion (λ happened. happened.what ≡ Waits → happened.thread < n) told
+AreBelow n told = AllByRecursion (λ happened. IsBelow n happened.what happened.thread) told
 
-counted-step : (n : ℕ) (world : World) (s : Sections) (what : What) (t m : ℕ) → n < 2 ^ 32 → (what ≡ Waits → t < n) →
-    CanHappen world what t m → AreCounted n world.awaits s →
-    AreCounted n (after world what t m).awaits (sections_after s what t m)
-counted-step n world s Granted t m few lt can c =
+counted-step : (n : ℕ) (world : World) (s : Sections) (what : What) (t : ℕ) → n < 2 ^ 32 → IsBelow n what t →
+    CanHappen world what t → AreCounted n world.awaits s →
+    AreCounted n (after world what t).awaits (sections_after s what t)
+counted-step n world s (Granted m) t few lt can c =
     elim can.1 [
       | inl idle ↦
           let none : is_none (s.began t) ≡ true = c.began t ∙ ap is_none idle in
@@ -170,22 +175,22 @@ counted-step n world s Granted t m few lt can c =
           }
       | inr is ↦
           let some : is_none (s.began t) ≡ false = c.began t ∙ ap is_none is in
-          counted-over n t m world.awaits s (sections_after s Granted t m) is refl
+          counted-over n t m world.awaits s (sections_after s (Granted m) t) is refl
           (ap (λ b. cond b s.waiting (one_less_at m s.waiting)) some) c
     ]
-counted-step n world s Waits t m few lt can c =
-    let below : t < n = lt refl in
+counted-step n world s (Waits m) t few lt can c =
+    let below : t < n = lt in
     record {
       below = λ k le. at-other t (Some m) world.awaits k (λ e. absurd (omega (arith, e, le, below))) ∙ c.below k le;
       began = none-both t (Some (number_at s m)) (Some m) s.began world.awaits refl c.began;
       waiting = more-waits n t m world.awaits s.waiting few below can.0 c.waiting;
     }
-counted-step n world s GaveUp t m few lt can c =
-    counted-over n t m world.awaits s (sections_after s GaveUp t m) can refl refl c
-counted-step n world s (Released next) t m few lt can c =
+counted-step n world s (GaveUp m) t few lt can c =
+    counted-over n t m world.awaits s (sections_after s (GaveUp m) t) can refl refl c
+counted-step n world s (Released m next) t few lt can c =
     record { below = c.below; began = c.began; waiting = c.waiting }
-counted-step n world s (Level level) t m few lt can c = c
-counted-step n world s (Ceiling ceiling) t m few lt can c = c
+counted-step n world s (Level level) t few lt can c = c
+counted-step n world s (Ceiling m level) t few lt can c = c
 
 pub counted-led : (n : ℕ) (facts : List Fact) (from to : World) (s x : Sections) → n < 2 ^ 32 →
     AreBelow n (map happening facts) → Lead facts from to → AreNumbered facts s x → AreCounted n from.awaits s →
@@ -194,10 +199,7 @@ counted-led n [] from to s x few below led numbered c =
     subst (λ (w : World). AreCounted n w.awaits x) (sym led) (subst (AreCounted n from.awaits) (sym numbered) c)
 counted-led n (fact ∷ facts) from to s x few below led numbered c =
     counted-led n facts (after_fact from fact) to (after_numbered s fact) x few below.1 led.1 numbered.1
-    (counted-step n from s fact.what fact.thread fact.mutex few below.0 led.0 c)
-
-below-did : (n : ℕ) (what : What) (t m : ℕ) → (what ≡ Waits → t < n) → AreBelow n (did what t m)
-below-did n what t m lt = (lt, tt)
+    (counted-step n from s fact.what fact.thread few below.0 led.0 c)
 
 below-if : (n : ℕ) (b : Bool) (x y : List Happening) → AreBelow n x → AreBelow n y → AreBelow n (cond b x y)
 below-if n true x y is other = is
@@ -216,17 +218,17 @@ below-ceiling : (n : ℕ) (sources : Sources) (world : World) (t m : ℕ) (said 
     AreBelow n (ceiling_told sources world t m said)
 below-ceiling n sources world t m said =
     below-each n (ceiling_by_log (family_in sources m) said) _ (λ ceiling.
-    below-if n _ [] (did (Ceiling ceiling) t m) tt (below-did n (Ceiling ceiling) t m (λ e. absurd (cc))))
+    below-if n _ [] (did (Ceiling m ceiling) t) tt (tt, tt))
 
 below-gave-up : (n : ℕ) (world : World) (t : ℕ) (but : Option ℕ) → AreBelow n (gave_up_told world t but)
 below-gave-up n world t but =
     below-each n (world.awaits t) _ (λ m.
-    below-if n _ [] (did GaveUp t m) tt (below-did n GaveUp t m (λ e. absurd (cc))))
+    below-if n _ [] (did (GaveUp m) t) tt (tt, tt))
 
 below-freed : (n : ℕ) (world : World) (m : ℕ) (next owner : Option ℕ) →
     AreBelow n (option_map_or (λ t. released_told world t m next) owner [])
 below-freed n world m next owner =
-    below-each n owner _ (λ t. below-did n (Released _) t m (λ e. absurd (cc)))
+    below-each n owner _ (λ t. (tt, tt))
 
 below-called : (n : ℕ) (sources : Sources) (world : World) (t m : ℕ) (said : Mutex) →
     AreBelow n (ceiling_told sources world t m said ++ gave_up_told world t (Some m))
@@ -241,8 +243,8 @@ below-told n sources world depth number t id (event.Name _) lt = tt
 below-told n sources world depth number t id event.Create lt = tt
 below-told n sources world depth number t id event.Exit lt = tt
 below-told n sources world depth number t id (event.Priority _ priority) lt =
-    below-if n _ [] (did (Level (level_by priority (world.level id))) id 0) tt
-    (below-did n (Level _) id 0 (λ e. absurd (cc)))
+    below-if n _ [] (did (Level (level_by priority (world.level id))) id) tt
+    (tt, tt)
 below-told n sources world depth number t id event.Fork lt = tt
 below-told n sources world depth number t id (event.Child _) lt = tt
 below-told n sources world depth number t id event.Exec lt = tt
@@ -256,18 +258,18 @@ below-told n sources world depth number t id (event.Destroy _) lt = tt
 below-told n sources world depth number t id (event.DestroyFailed _) lt = tt
 below-told n sources world depth number t id (event.Ceiling said) lt = below-ceiling n sources world t id said
 below-told n sources world depth number t id (event.Request said _) lt =
-    below-if n _ [] _ tt (below-both n _ (did Waits t id) (below-called n sources world t id said)
-    (below-did n Waits t id (λ _. lt)))
+    below-if n _ [] _ tt (below-both n _ (did (Waits id) t) (below-called n sources world t id said)
+    (lt, tt))
 below-told n sources world depth number t id (event.Granted said _ _) lt =
-    below-if n _ [] _ tt (below-both n _ (did Granted t id)
+    below-if n _ [] _ tt (below-both n _ (did (Granted id) t)
     (below-both n _ (freed_told world id (Some t)) (below-called n sources world t id said)
     (below-freed n world id (Some t) (world.owner id)))
-    (below-did n Granted t id (λ e. absurd (cc))))
+    (tt, tt))
 below-told n sources world depth number t id (event.Failed _ _ _) lt =
-    below-if n _ [] (did GaveUp t id) tt (below-did n GaveUp t id (λ e. absurd (cc)))
+    below-if n _ (did (GaveUp id) t) [] (tt, tt) tt
 below-told n sources world depth number t id (event.Release _ _) lt =
     below-if n _ [] _ tt (below-both n (gave_up_told world t None) _ (below-gave-up n world t None)
-    (below-did n (Released _) t id (λ e. absurd (cc))))
+    (tt, tt))
 below-told n sources world depth number t id (event.ReleaseFailed _) lt = tt
 below-told n sources world depth number t id (event.Condition _) lt = tt
 below-told n sources world depth number t id (event.Wait _) lt = tt
@@ -329,8 +331,8 @@ counted-by bytes sources number old new covers all size below few goes c =
     subst (λ k. AreCounted k (world_of new).awaits (sections_of new)) (sym size.threads)
     (counted-led n (shown_in new.shown) (as_told (world_of old) t goes.found.event) (world_of new) (sections_of old)
     (sections_of new) few
-    (subst (AreBelow n) (sym goes.told) (below-told n sources (world_of old) (depths_of old) goes.found.number t
-    (id_of sources.ids goes.found.number) goes.found.event those.thread))
+    (subst (AreBelow n) (sym goes.told) (below-each n (id_of sources.ids goes.found.number) _ (λ id.
+    below-told n sources (world_of old) (depths_of old) goes.found.number t id goes.found.event those.thread)))
     (goes.led those) (goes.sections those)
     (subst (λ f. AreCounted n f (sections_of old)) (sym (told-awaits (world_of old) t goes.found.event)) c))
 
@@ -343,8 +345,8 @@ counted-added old new request size few lt told led numbered c =
     let n : ℕ = length old.threads.items in
     subst (λ k. AreCounted k (world_of new).awaits (sections_of new)) (sym size)
     (counted-led n (shown_in new.shown) (world_of old) (world_of new) (sections_of old) (sections_of new) few
-    (subst (AreBelow n) (sym told) (below-if n _ (did Waits request.thread request.mutex) []
-    (below-did n Waits request.thread request.mutex (λ _. lt)) tt))
+    (subst (AreBelow n) (sym told) (below-if n _ (did (Waits request.mutex) request.thread) []
+    (lt, tt) tt))
     led numbered c)
 
 -- nobody waits exactly if none is counted

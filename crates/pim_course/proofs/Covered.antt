@@ -1,5 +1,6 @@
 -- The course of a log has those whom the records are about.
-use Rattle.std.proofs.Common.{ℕ, ◌<◌, List, sym, subst}
+use Rattle.std.proofs.Common.{ℕ, ◌<◌, List, Option, Some, None, sym, subst}
+use Rattle.std.specs.Prelude.{IfSome}
 use Rattle.pim_log.specs.Headers.{header_of, end_of}
 use Rattle.pim_log.specs.Logs.{IsNumbered, IsRecord}
 use Rattle.pim_log.specs.declared.event.Event.{Event}
@@ -11,7 +12,7 @@ use Rattle.pim_facts.specs.declared.ids.Ids.{Ids}
 use Rattle.pim_course.specs.Reading.{HasAllOf, HasNumber, HasThoseOf, ReadingLaw}
 use Rattle.pim_course.specs.declared.course.Course.{Course}
 
-has-number : (ids : Ids) (course : Course) (n : ℕ) (e : Event) → HasAllOf ids course → covering.HasNumber ids e n →
+has-number : (ids : Ids) (course : Course) (n : ℕ) (e : Event) → HasAllOf ids course → covering.HasId ids e (Some n) →
     HasNumber course e n
 has-number ids course n (event.Thread _ _) all h = tt
 has-number ids course n (event.Name _) all h = tt
@@ -41,6 +42,11 @@ has-number ids course n (event.Waited _ _ _) all h = tt
 has-number ids course n (event.Give _ _) all h = tt
 has-number ids course n (event.Frame _) all h = tt
 
+has-id : (ids : Ids) (course : Course) (id : Option ℕ) (e : Event) → HasAllOf ids course → covering.HasId ids e id →
+    IfSome id (HasNumber course e)
+has-id ids course None e all h = tt
+has-id ids course (Some n) e all h = has-number ids course n e all h
+
 pub has-those : (bytes : List ℕ) (ids : Ids) (course : Course) (slot number : ℕ) (r : Record) → covering.Covers ids bytes →
     HasAllOf ids course → number < end_of (header_of bytes) → IsNumbered bytes slot number → IsRecord bytes slot r →
     HasThoseOf course r (id_of ids number)
@@ -49,7 +55,7 @@ has-those bytes ids course slot number r covers all below numbered is =
     record {
       above = those.above;
       thread = subst (λ k. r.thread < k) (sym all.threads) those.thread;
-      about = has-number ids course (id_of ids number) r.event all those.about;
+      about = has-id ids course (id_of ids number) r.event all those.about;
     }
 
 pub reading : ReadingLaw

@@ -70,6 +70,11 @@ read-again ids m t None behind kept again covers is same = is
 read-again ids m t (Some call) behind kept again covers is same =
     same (subst IsKeepable (sym is) (release-keepable ids m t call behind covers)) ∙ is
 
+-- what holds of something, if there is it, does so if each such thing has the first property
+pub if-some : {A : Type 0} (P Q : A → Type 0) (o : Option A) → ((x : A) → P x → Q x) → IfSome o P → IfSome o Q
+if-some P Q None implies holds = tt
+if-some P Q (Some x) implies holds = implies x holds
+
 -- the records are those from a number on that none has
 lacks-from : (bytes : List ℕ) (number : ℕ) (rs : List Record) → ((slot : ℕ) → IsNumbered bytes slot number → ⊥) →
     AreFrom bytes (number + 1) rs → AreFrom bytes number rs
@@ -115,7 +120,7 @@ pub record AsRead (ids : Ids) (number : ℕ) (r : Record) (behind : List Record)
   pub knows : Knows ids (r ∷ behind) after
   pub room : HasRoom ids after
   pub as_long : length new.kept.items ≡ length old.kept.items
-  pub is : IsKept ids (id_of ids number) r.thread r.event behind kept
+  pub is : IfSome (id_of ids number) (λ m. IsKept ids m r.thread r.event behind kept)
   pub same : IsKeepable kept → kept_of new number ≡ kept
   pub rest : (other : ℕ) → other ≢ number → get_or new.kept.items other 0 ≡ get_or old.kept.items other 0
 
@@ -127,7 +132,8 @@ found-again bytes ids k old new e finds =
       behind = finds.behind;
       is = finds.is;
       are = finds.are;
-      kept = subst (λ kept. IsKept ids (id_of ids k) finds.r.thread finds.r.event finds.behind kept) (sym e) finds.kept;
+      kept = subst (λ kept. IfSome (id_of ids k) (λ m. IsKept ids m finds.r.thread finds.r.event finds.behind kept)) (sym e)
+          finds.kept;
     }
 
 pub record-step : (bytes : List ℕ) (ids : Ids) (number slot : ℕ) (r : Record) (old new : NextOwners) (before after : Coming)
@@ -156,8 +162,10 @@ record-step bytes ids number slot r old new before after kept numbered is above 
             behind = has.behind;
             is = here;
             are = has.are;
-            kept = read-again ids (id_of ids number) r.thread (release_call r.event) has.behind kept (kept_of new number)
-                has.covers as_read.is as_read.same;
+            kept = if-some (λ m. IsKept ids m r.thread r.event has.behind kept)
+                (λ m. IsKept ids m r.thread r.event has.behind (kept_of new number)) (id_of ids number)
+                (λ m was. read-again ids m r.thread (release_call r.event) has.behind kept (kept_of new number) has.covers
+                was as_read.same) as_read.is;
           })
           | inr other ↦ found-again bytes ids k old new (ap kept_by (as_read.rest k other))
               (has.finds k at (omega arith) is-numbered)

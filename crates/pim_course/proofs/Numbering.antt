@@ -144,9 +144,9 @@ pub waits-in : (c s d : Course) (t : ℕ) (y : CourseThread) (m : ℕ) (z : Cour
     d.mutexes.items ≡ set s.mutexes.items m z → d.sections ≡ s.sections → t < length s.threads.items →
     m < length s.mutexes.items → y.section ≡ Some (number_at (sections_of c) m) → z.section ≡ (mutex_in s m).section →
     z.next_owner ≡ (mutex_in s m).next_owner → z.waiting ≡ min ((mutex_in s m).waiting + 1) (2 ^ 32 - 1) →
-    sections_of d ≡ sections_after (sections_of c) Waits t m
+    sections_of d ≡ sections_after (sections_of c) (Waits m) t
 waits-in c s d t y m z lasts threads mutexes count lt below began lasting next waiting =
-    sections-are (sections_after (sections_of c) Waits t m) (sections_of d)
+    sections-are (sections_after (sections_of c) (Waits m) t) (sections_of d)
     (lasting-same s d m z mutexes lasting ∙ ap (λ x. x.lasting) lasts)
     (next-same s d m z mutexes next ∙ ap (λ x. x.next) lasts)
     (waiting-put s d m z mutexes below ∙ ap (λ k. but_for m k (sections_of s).waiting) waiting
@@ -168,9 +168,9 @@ pub granted-in : (c s d : Course) (t : ℕ) (y : CourseThread) (m : ℕ) (z : Co
     d.mutexes.items ≡ set s.mutexes.items m z → d.sections ≡ s.sections → m < length s.mutexes.items →
     y.section ≡ None → z.section ≡ (mutex_in s m).section → z.next_owner ≡ None →
     z.waiting ≡ cond (is_none (thread_in s t).section) (mutex_in s m).waiting ((mutex_in s m).waiting - 1) →
-    sections_of d ≡ sections_after (sections_of c) Granted t m
+    sections_of d ≡ sections_after (sections_of c) (Granted m) t
 granted-in c s d t y m z lasts threads mutexes count below began lasting next waiting =
-    sections-are (sections_after (sections_of c) Granted t m) (sections_of d)
+    sections-are (sections_after (sections_of c) (Granted m) t) (sections_of d)
     (lasting-same s d m z mutexes lasting ∙ ap (λ x. x.lasting) lasts)
     (next-put s d m z mutexes below ∙ ap (λ o. but_for m o (sections_of s).next) next ∙ ap (λ x. but_for m None x.next)
     lasts)
@@ -184,9 +184,9 @@ pub gave-up : (c d : Course) (t : ℕ) (y : CourseThread) (m : ℕ) (z : CourseM
     d.threads.items ≡ set c.threads.items t y →
     d.mutexes.items ≡ set c.mutexes.items m z → d.sections ≡ c.sections → y.section ≡ None →
     z.section ≡ (mutex_in c m).section → z.next_owner ≡ (mutex_in c m).next_owner → z.waiting ≡ (mutex_in c m).waiting - 1 →
-    sections_of d ≡ sections_after (sections_of c) GaveUp t m
+    sections_of d ≡ sections_after (sections_of c) (GaveUp m) t
 gave-up c d t y m z threads mutexes count began lasting next waiting =
-    sections-are (sections_after (sections_of c) GaveUp t m) (sections_of d)
+    sections-are (sections_after (sections_of c) (GaveUp m) t) (sections_of d)
     (lasting-same c d m z mutexes lasting) (next-same c d m z mutexes next) (waiting-less c d m z mutexes waiting)
     (began-over c d t y threads began) count
 
@@ -202,9 +202,9 @@ lasting-after c d m z (Some next) mutexes lt section = lasting-same c d m z mute
 pub released-to : (c d : Course) (t m : ℕ) (z : CourseMutex) (next : Option ℕ) → d.threads.items ≡ c.threads.items →
     d.mutexes.items ≡ set c.mutexes.items m z → d.sections ≡ c.sections → m < length c.mutexes.items →
     z.section ≡ option_and next (mutex_in c m).section → z.next_owner ≡ next → z.waiting ≡ (mutex_in c m).waiting →
-    sections_of d ≡ sections_after (sections_of c) (Released next) t m
+    sections_of d ≡ sections_after (sections_of c) (Released m next) t
 released-to c d t m z next threads mutexes count lt section heir waiting =
-    sections-are (sections_after (sections_of c) (Released next) t m) (sections_of d)
+    sections-are (sections_after (sections_of c) (Released m next) t) (sections_of d)
     (lasting-after c d m z next mutexes lt section)
     (next-put c d m z mutexes lt ∙ ap (λ o. but_for m o (sections_of c).next) heir)
     (waiting-same c d m z mutexes waiting) (began-kept c d threads) count

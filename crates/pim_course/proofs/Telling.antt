@@ -19,9 +19,6 @@ if-so b x y e = ap (λ k. cond k x y) e
 pub if-not : {A : Type 0} (b : Bool) (x y : A) → b ≡ false → cond b x y ≡ y
 if-not b x y e = ap (λ k. cond k x y) e
 
-pub left-of : (a b : Bool) → a ≡ true → (a || b) ≡ true
-left-of a b e = ap (λ k. k || b) e
-
 pub right-of : (a b : Bool) → b ≡ true → (a || b) ≡ true
 right-of true b e = refl
 right-of false b e = e

@@ -6,7 +6,9 @@ use Rattle.std.specs.List.{AllByRecursion}
 use Rattle.pim_facts.specs.declared.fact.Fact.{Fact}
 use Rattle.pim_facts.specs.declared.fact.What.{What}
 use Rattle.pim_facts.specs.declared.fact.What.TheVariants.{Granted, Waits, GaveUp, Released, Level, Ceiling}
-use Rattle.pim_course.specs.Sections.{AreNumbered, AreTogether, Ends, IsToNobody, IsWithin, Sections, SectionsLaw}
+use Rattle.std.specs.Prelude.{MatchOption}
+use Rattle.pim_facts.specs.Shown.{mutex_of}
+use Rattle.pim_course.specs.Sections.{AreNumbered, AreTogether, Ends, IsGivenUp, IsWithin, Sections, SectionsLaw}
 use Rattle.pim_course.specs.Sections.{after_numbered, lasts_at, next_number, no_sections, number_at, number_of}
 use Rattle.pim_course.specs.Sections.{sections_after}
 use Rattle.pim_course.specs.World.{but_for}
@@ -57,23 +59,23 @@ count-lasts s m lt =
       | inr is ↦ omega (arith, ap (λ x. x.count) (lasts-still s m is.0 is.1))
     ]
 
-count-released : (s : Sections) (next : Option ℕ) (t m : ℕ) → (sections_after s (Released next) t m).count ≡ s.count
-count-released s next t m = refl
+count-released : (s : Sections) (m : ℕ) (next : Option ℕ) (t : ℕ) → (sections_after s (Released m next) t).count ≡ s.count
+count-released s m next t = refl
 
-count-step : (s : Sections) (what : What) (t m : ℕ) → (sections_after s what t m).count < 2 ^ 32 - 1 →
-    s.count ≤ (sections_after s what t m).count
-count-step s Granted t m lt = count-lasts s m lt
-count-step s Waits t m lt = count-lasts s m lt
-count-step s GaveUp t m lt = omega arith
-count-step s (Released next) t m lt = omega (arith, count-released s next t m)
-count-step s (Level level) t m lt = omega arith
-count-step s (Ceiling ceiling) t m lt = omega arith
+count-step : (s : Sections) (what : What) (t : ℕ) → (sections_after s what t).count < 2 ^ 32 - 1 →
+    s.count ≤ (sections_after s what t).count
+count-step s (Granted m) t lt = count-lasts s m lt
+count-step s (Waits m) t lt = count-lasts s m lt
+count-step s (GaveUp m) t lt = omega arith
+count-step s (Released m next) t lt = omega (arith, count-released s m next t)
+count-step s (Level level) t lt = omega arith
+count-step s (Ceiling m level) t lt = omega arith
 
 grows : (facts : List Fact) (s to : Sections) → AreNumbered facts s to → to.count < 2 ^ 32 - 1 → s.count ≤ to.count
 grows [] s to led lt = omega (arith, ap (λ x. x.count) led)
 grows (fact ∷ facts) s to led lt =
     let more : (after_numbered s fact).count ≤ to.count = grows facts (after_numbered s fact) to led.1 lt in
-    omega (arith, more, lt, count-step s fact.what fact.thread fact.mutex (omega (arith, more, lt)))
+    omega (arith, more, lt, count-step s fact.what fact.thread (omega (arith, more, lt)))
 
 below-next : (fact : Fact) (facts : List Fact) (s to : Sections) → AreNumbered facts (after_numbered s fact) to →
     to.count < 2 ^ 32 - 1 → (after_numbered s fact).count < 2 ^ 32 - 1
@@ -107,18 +109,18 @@ ended-only R s m n only =
       ];
     }
 
-step-only : (R : ℕ → Type 0) (s : Sections) (what : What) (t m n : ℕ) → Only R s n →
-    (sections_after s what t m).count < 2 ^ 32 - 1 → Only R (sections_after s what t m) n
-step-only R s Granted t m n only lt =
+step-only : (R : ℕ → Type 0) (s : Sections) (what : What) (t n : ℕ) → Only R s n →
+    (sections_after s what t).count < 2 ^ 32 - 1 → Only R (sections_after s what t) n
+step-only R s (Granted m) t n only lt =
     let x = lasts-only R s m n only lt in record { below = x.below; only = x.only }
-step-only R s Waits t m n only lt =
+step-only R s (Waits m) t n only lt =
     let x = lasts-only R s m n only lt in record { below = x.below; only = x.only }
-step-only R s GaveUp t m n only lt = record { below = only.below; only = only.only }
-step-only R s (Released None) t m n only lt =
+step-only R s (GaveUp m) t n only lt = record { below = only.below; only = only.only }
+step-only R s (Released m None) t n only lt =
     let x = ended-only R s m n only in record { below = x.below; only = x.only }
-step-only R s (Released (Some next)) t m n only lt = record { below = only.below; only = only.only }
-step-only R s (Level level) t m n only lt = only
-step-only R s (Ceiling ceiling) t m n only lt = only
+step-only R s (Released m (Some next)) t n only lt = record { below = only.below; only = only.only }
+step-only R s (Level level) t n only lt = only
+step-only R s (Ceiling m level) t n only lt = only
 
 apart-lasts : (s : Sections) (j : ℕ) → Apart s → (lasts_at s j).count < 2 ^ 32 - 1 → Apart (lasts_at s j)
 apart-lasts s j apart lt =
@@ -169,19 +171,19 @@ apart-same s x lasting count apart =
           };
     }
 
-apart-step : (s : Sections) (what : What) (t m : ℕ) → Apart s → (sections_after s what t m).count < 2 ^ 32 - 1 →
-    Apart (sections_after s what t m)
-apart-step s Granted t m apart lt =
-    apart-same (lasts_at s m) (sections_after s Granted t m) refl refl (apart-lasts s m apart lt)
-apart-step s Waits t m apart lt =
-    apart-same (lasts_at s m) (sections_after s Waits t m) refl refl (apart-lasts s m apart lt)
-apart-step s GaveUp t m apart lt = apart-same s (sections_after s GaveUp t m) refl refl apart
-apart-step s (Released None) t m apart lt =
-    apart-same (ended s m) (sections_after s (Released None) t m) refl refl (apart-ended s m apart)
-apart-step s (Released (Some next)) t m apart lt =
-    apart-same s (sections_after s (Released (Some next)) t m) refl refl apart
-apart-step s (Level level) t m apart lt = apart
-apart-step s (Ceiling ceiling) t m apart lt = apart
+apart-step : (s : Sections) (what : What) (t : ℕ) → Apart s → (sections_after s what t).count < 2 ^ 32 - 1 →
+    Apart (sections_after s what t)
+apart-step s (Granted m) t apart lt =
+    apart-same (lasts_at s m) (sections_after s (Granted m) t) refl refl (apart-lasts s m apart lt)
+apart-step s (Waits m) t apart lt =
+    apart-same (lasts_at s m) (sections_after s (Waits m) t) refl refl (apart-lasts s m apart lt)
+apart-step s (GaveUp m) t apart lt = apart-same s (sections_after s (GaveUp m) t) refl refl apart
+apart-step s (Released m None) t apart lt =
+    apart-same (ended s m) (sections_after s (Released m None) t) refl refl (apart-ended s m apart)
+apart-step s (Released m (Some next)) t apart lt =
+    apart-same s (sections_after s (Released m (Some next)) t) refl refl apart
+apart-step s (Level level) t apart lt = apart
+apart-step s (Ceiling m level) t apart lt = apart
 
 -- a fact has a number with which critical sections last at mutexes of a kind: its own is one
 here-lasts : (R : ℕ → Type 0) (s : Sections) (m n : ℕ) → Only R s n → (lasts_at s m).count < 2 ^ 32 - 1 →
@@ -192,87 +194,87 @@ here-lasts R s m n only lt e =
       | inr is ↦ only.only m (is.1 ∙ ap (λ j. Some j) (sym (number-lasting s m is.0 is.1)) ∙ sym e)
     ]
 
-here : (R : ℕ → Type 0) (s : Sections) (what : What) (t m n : ℕ) → Only R s n →
-    (sections_after s what t m).count < 2 ^ 32 - 1 → what ≢ GaveUp → Some n ≡ number_of s what t m → R m
-here R s Granted t m n only lt live e = here-lasts R s m n only lt e
-here R s Waits t m n only lt live e = here-lasts R s m n only lt e
-here R s GaveUp t m n only lt live e = absurd (live refl)
-here R s (Released next) t m n only lt live e = only.only m (sym e)
-here R s (Level level) t m n only lt live e = never-some n (sym e)
-here R s (Ceiling ceiling) t m n only lt live e = only.only m (sym e)
+here : (R : ℕ → Type 0) (s : Sections) (what : What) (t n : ℕ) → Only R s n →
+    (sections_after s what t).count < 2 ^ 32 - 1 → (IsGivenUp what → ⊥) → Some n ≡ number_of s what t →
+    MatchOption (mutex_of what) ⊥ R
+here R s (Granted m) t n only lt live e = here-lasts R s m n only lt e
+here R s (Waits m) t n only lt live e = here-lasts R s m n only lt e
+here R s (GaveUp m) t n only lt live e = absurd (live tt)
+here R s (Released m next) t n only lt live e = only.only m (sym e)
+here R s (Level level) t n only lt live e = never-some n (sym e)
+here R s (Ceiling m level) t n only lt live e = only.only m (sym e)
 
 -- the number of a critical section
 number-in : (section : Option ℕ) → section ≢ None → (n : ℕ) × (section ≡ Some n)
 number-in None some = absurd (some refl)
 number-in (Some n) some = (n, refl)
 
+-- the mutex that there is
+mutex-in : (P : ℕ → Type 0) (mutex : Option ℕ) → MatchOption mutex ⊥ P → (m : ℕ) × ((mutex ≡ Some m) × P m)
+mutex-in P None h = absurd h
+mutex-in P (Some m) h = (m, (refl, h))
+
+no-mutex : (mutex : Option ℕ) → MatchOption mutex ⊥ (λ _. ⊥) → ⊥
+no-mutex None h = h
+no-mutex (Some m) h = h
+
 run : (R : ℕ → Type 0) (facts : List Fact) (last : Fact) (s to : Sections) (n : ℕ) → Only R s n →
-    AreNumbered (facts ++ (last ∷ [])) s to → to.count < 2 ^ 32 - 1 → IsWithin last → last.section ≡ Some n → R last.mutex
+    AreNumbered (facts ++ (last ∷ [])) s to → to.count < 2 ^ 32 - 1 → IsWithin last → last.section ≡ Some n →
+    MatchOption (mutex_of last.what) ⊥ R
 run R [] last s to n only led lt within e =
-    here R s last.what last.thread last.mutex n only (below-next last [] s to led.1 lt) within.no_end
-    (sym e ∙ led.0.section)
+    here R s last.what last.thread n only (below-next last [] s to led.1 lt) within.no_end (sym e ∙ led.0.section)
 run R (fact ∷ facts) last s to n only led lt within e =
     run R facts last (after_numbered s fact) to n
-    (step-only R s fact.what fact.thread fact.mutex n only (below-next fact (facts ++ (last ∷ [])) s to led.1 lt))
+    (step-only R s fact.what fact.thread n only (below-next fact (facts ++ (last ∷ [])) s to led.1 lt))
     led.1 lt within e
 
 -- the critical section with this number is ended
-gone : (s : Sections) (what : What) (t k m n : ℕ) → Only (λ j. j ≡ m) s n → k ≡ m → IsToNobody what →
-    Only (λ _. ⊥) (sections_after s what t k) n
-gone s Granted t k m n only at nobody = absurd nobody
-gone s Waits t k m n only at nobody = absurd nobody
-gone s GaveUp t k m n only at nobody = absurd nobody
-gone s (Released (Some next)) t k m n only at nobody = absurd (cc)
-gone s (Released None) t k m n only at nobody =
-    record {
+gone : (s : Sections) (what : What) (t m n : ℕ) → Only (λ j. j ≡ m) s n → what ≡ Released m None →
+    Only (λ _. ⊥) (sections_after s what t) n
+gone s what t m n only ends =
+    subst (λ so. Only (λ _. ⊥) (sections_after s so t) n) (sym ends) (record {
       below = only.below;
-      only = λ j lasting. elim (cases_eq j k) [
-        | inl same ↦ never-some n (sym (at-it k None s.lasting j same) ∙ lasting)
-        | inr other ↦ other (only.only j (sym (at-other k None s.lasting j other) ∙ lasting) ∙ sym at)
+      only = λ j lasting. elim (cases_eq j m) [
+        | inl same ↦ never-some n (sym (at-it m None s.lasting j same) ∙ lasting)
+        | inr other ↦ other (only.only j (sym (at-other m None s.lasting j other) ∙ lasting))
       ];
-    }
-gone s (Level level) t k m n only at nobody = absurd nobody
-gone s (Ceiling ceiling) t k m n only at nobody = absurd nobody
+    })
 
 unended : (facts : List Fact) (last : Fact) (s to : Sections) (m n : ℕ) → Only (λ j. j ≡ m) s n →
     AreNumbered (facts ++ (last ∷ [])) s to → to.count < 2 ^ 32 - 1 → IsWithin last → last.section ≡ Some n →
     AllByRecursion (λ fact. Ends m fact → ⊥) facts
 unended [] last s to m n only led lt within e = tt
 unended (fact ∷ facts) last s to m n only led lt within e = (
-  λ ends. run (λ _. ⊥) facts last (after_numbered s fact) to n
-      (gone s fact.what fact.thread fact.mutex m n only ends.mutex ends.is) led.1 lt within e,
+  λ ends. no-mutex (mutex_of last.what) (run (λ _. ⊥) facts last (after_numbered s fact) to n
+      (gone s fact.what fact.thread m n only ends) led.1 lt within e),
   unended facts last (after_numbered s fact) to m n
-      (step-only (λ j. j ≡ m) s fact.what fact.thread fact.mutex n only
+      (step-only (λ j. j ≡ m) s fact.what fact.thread n only
       (below-next fact (facts ++ (last ∷ [])) s to led.1 lt))
       led.1 lt within e,
 )
 
 -- a fact within a critical section: the one with its number is at its mutex from then on
-first-only : (s : Sections) (what : What) (t m n : ℕ) → Apart s → (sections_after s what t m).count < 2 ^ 32 - 1 →
-    what ≢ GaveUp → Some n ≡ number_of s what t m → Only (λ j. j ≡ m) (sections_after s what t m) n
-first-only s Granted t m n apart lt live e =
+first-only : (s : Sections) (what : What) (t n : ℕ) → Apart s → (sections_after s what t).count < 2 ^ 32 - 1 →
+    (IsGivenUp what → ⊥) → Some n ≡ number_of s what t →
+    MatchOption (mutex_of what) ⊥ (λ m. Only (λ j. j ≡ m) (sections_after s what t) n)
+first-only s (Granted m) t n apart lt live e =
     let x : Only (λ j. j ≡ m) (lasts_at s m) n =
     (apart-lasts s m apart lt).only m n (at-it m (Some (number_at s m)) s.lasting m refl ∙ sym e) in
     record { below = x.below; only = x.only }
-first-only s Waits t m n apart lt live e =
+first-only s (Waits m) t n apart lt live e =
     let x : Only (λ j. j ≡ m) (lasts_at s m) n =
     (apart-lasts s m apart lt).only m n (at-it m (Some (number_at s m)) s.lasting m refl ∙ sym e) in
     record { below = x.below; only = x.only }
-first-only s GaveUp t m n apart lt live e = absurd (live refl)
-first-only s (Released next) t m n apart lt live e =
-    step-only (λ j. j ≡ m) s (Released next) t m n (apart.only m n (sym e)) lt
-first-only s (Level level) t m n apart lt live e = never-some n (sym e)
-first-only s (Ceiling ceiling) t m n apart lt live e = apart.only m n (sym e)
+first-only s (GaveUp m) t n apart lt live e = absurd (live tt)
+first-only s (Released m next) t n apart lt live e =
+    step-only (λ j. j ≡ m) s (Released m next) t n (apart.only m n (sym e)) lt
+first-only s (Level level) t n apart lt live e = never-some n (sym e)
+first-only s (Ceiling m level) t n apart lt live e = apart.only m n (sym e)
 
-first-gone : (s : Sections) (what : What) (t m n : ℕ) → Apart s → IsToNobody what → Some n ≡ number_of s what t m →
-    Only (λ _. ⊥) (sections_after s what t m) n
-first-gone s Granted t m n apart nobody e = absurd nobody
-first-gone s Waits t m n apart nobody e = absurd nobody
-first-gone s GaveUp t m n apart nobody e = absurd nobody
-first-gone s (Released next) t m n apart nobody e =
-    gone s (Released next) t m m n (apart.only m n (sym e)) refl nobody
-first-gone s (Level level) t m n apart nobody e = absurd nobody
-first-gone s (Ceiling ceiling) t m n apart nobody e = absurd nobody
+first-gone : (s : Sections) (what : What) (t m n : ℕ) → Apart s → what ≡ Released m None →
+    Some n ≡ number_of s what t → Only (λ _. ⊥) (sections_after s what t) n
+first-gone s what t m n apart ends e =
+    gone s what t m n (apart.only m n (sym (e ∙ ap (λ so. number_of s so t) ends))) ends
 
 -- the critical section lasts, unless a fact ends it
 kept-lasting : (s : Sections) (k m n : ℕ) → s.lasting m ≡ Some n → (lasts_at s k).lasting m ≡ Some n
@@ -284,63 +286,72 @@ kept-lasting s k m n is =
       | inr other ↦ at-other k (Some (number_at s k)) s.lasting m other ∙ is
     ]
 
-stays : (s : Sections) (what : What) (t k m n : ℕ) → s.lasting m ≡ Some n → (k ≡ m → IsToNobody what → ⊥) →
-    (sections_after s what t k).lasting m ≡ Some n
-stays s Granted t k m n is live = kept-lasting s k m n is
-stays s Waits t k m n is live = kept-lasting s k m n is
-stays s GaveUp t k m n is live = is
-stays s (Released None) t k m n is live = at-other k None s.lasting m (λ at. live (sym at) refl) ∙ is
-stays s (Released (Some next)) t k m n is live = is
-stays s (Level level) t k m n is live = is
-stays s (Ceiling ceiling) t k m n is live = is
+stays : (s : Sections) (what : What) (t m n : ℕ) → s.lasting m ≡ Some n → (what ≡ Released m None → ⊥) →
+    (sections_after s what t).lasting m ≡ Some n
+stays s (Granted k) t m n is on = kept-lasting s k m n is
+stays s (Waits k) t m n is on = kept-lasting s k m n is
+stays s (GaveUp k) t m n is on = is
+stays s (Released k None) t m n is on =
+    at-other k None s.lasting m (λ at. on (ap (λ j. Released j None) (sym at))) ∙ is
+stays s (Released k (Some next)) t m n is on = is
+stays s (Level level) t m n is on = is
+stays s (Ceiling k level) t m n is on = is
 
 -- a fact that has this number and doesn't end its critical section: that one lasts then
-first-lasts : (s : Sections) (what : What) (t m n : ℕ) → Some n ≡ number_of s what t m → what ≢ GaveUp →
-    (IsToNobody what → ⊥) → (sections_after s what t m).lasting m ≡ Some n
-first-lasts s Granted t m n e live on = at-it m (Some (number_at s m)) s.lasting m refl ∙ sym e
-first-lasts s Waits t m n e live on = at-it m (Some (number_at s m)) s.lasting m refl ∙ sym e
-first-lasts s GaveUp t m n e live on = absurd (live refl)
-first-lasts s (Released next) t m n e live on = stays s (Released next) t m m n (sym e) (λ _ nobody. on nobody)
-first-lasts s (Level level) t m n e live on = never-some n (sym e)
-first-lasts s (Ceiling ceiling) t m n e live on = sym e
+first-lasts : (s : Sections) (what : What) (t m n : ℕ) → Some n ≡ number_of s what t → (IsGivenUp what → ⊥) →
+    mutex_of what ≡ Some m → (what ≡ Released m None → ⊥) → (sections_after s what t).lasting m ≡ Some n
+first-lasts s (Granted k) t m n e live of on =
+    at-it k (Some (number_at s k)) s.lasting m (sym (same-some k m of)) ∙ sym e
+first-lasts s (Waits k) t m n e live of on =
+    at-it k (Some (number_at s k)) s.lasting m (sym (same-some k m of)) ∙ sym e
+first-lasts s (GaveUp k) t m n e live of on = absurd (live tt)
+first-lasts s (Released k next) t m n e live of on =
+    stays s (Released k next) t m n (ap s.lasting (sym (same-some k m of)) ∙ sym e) on
+first-lasts s (Level level) t m n e live of on = never-some n (sym e)
+first-lasts s (Ceiling k level) t m n e live of on = ap s.lasting (sym (same-some k m of)) ∙ sym e
 
-last-has : (s : Sections) (what : What) (t m n p : ℕ) → s.lasting m ≡ Some n → what ≢ GaveUp →
-    Some p ≡ number_of s what t m → p ≡ n
-last-has s Granted t m n p is live e = same-some _ _ e ∙ number-lasting s m n is
-last-has s Waits t m n p is live e = same-some _ _ e ∙ number-lasting s m n is
-last-has s GaveUp t m n p is live e = absurd (live refl)
-last-has s (Released next) t m n p is live e = same-some _ _ (e ∙ is)
-last-has s (Level level) t m n p is live e = never-some p (sym e)
-last-has s (Ceiling ceiling) t m n p is live e = same-some _ _ (e ∙ is)
+last-has : (s : Sections) (what : What) (t m n p : ℕ) → s.lasting m ≡ Some n → (IsGivenUp what → ⊥) →
+    mutex_of what ≡ Some m → Some p ≡ number_of s what t → p ≡ n
+last-has s (Granted k) t m n p is live of e =
+    same-some _ _ e ∙ number-lasting s k n (ap s.lasting (same-some k m of) ∙ is)
+last-has s (Waits k) t m n p is live of e =
+    same-some _ _ e ∙ number-lasting s k n (ap s.lasting (same-some k m of) ∙ is)
+last-has s (GaveUp k) t m n p is live of e = absurd (live tt)
+last-has s (Released k next) t m n p is live of e = same-some _ _ (e ∙ ap s.lasting (same-some k m of) ∙ is)
+last-has s (Level level) t m n p is live of e = never-some p (sym e)
+last-has s (Ceiling k level) t m n p is live of e = same-some _ _ (e ∙ ap s.lasting (same-some k m of) ∙ is)
 
 stay-run : (facts : List Fact) (last : Fact) (s to : Sections) (m n : ℕ) → s.lasting m ≡ Some n →
     AreNumbered (facts ++ (last ∷ [])) s to → AllByRecursion (λ fact. Ends m fact → ⊥) facts → IsWithin last →
-    last.mutex ≡ m → last.section ≡ Some n
-stay-run [] last s to m n is led all within e =
+    mutex_of last.what ≡ Some m → last.section ≡ Some n
+stay-run [] last s to m n is led all within of =
     let its = number-in last.section within.some in
     its.1
     ∙ ap (λ j. Some j)
-    (last-has s last.what last.thread last.mutex n its.0 (ap s.lasting e ∙ is) within.no_end (sym its.1 ∙ led.0.section))
-stay-run (fact ∷ facts) last s to m n is led all within e =
-    stay-run facts last (after_numbered s fact) to m n
-    (stays s fact.what fact.thread fact.mutex m n is (λ at nobody. all.0 (record { mutex = at; is = nobody })))
-    led.1 all.1 within e
+    (last-has s last.what last.thread m n its.0 is within.no_end of (sym its.1 ∙ led.0.section))
+stay-run (fact ∷ facts) last s to m n is led all within of =
+    stay-run facts last (after_numbered s fact) to m n (stays s fact.what fact.thread m n is all.0) led.1 all.1 within of
 
 together : (first last : Fact) (between : List Fact) (s to : Sections) → Apart s →
     AreNumbered (first ∷ (between ++ (last ∷ []))) s to → to.count < 2 ^ 32 - 1 → IsWithin first → IsWithin last →
     last.section ≡ first.section → AreTogether first between last
 together first last between s to apart led lt one other e =
-    let lt' : (after_numbered s first).count < 2 ^ 32 - 1 = below-next first (between ++ (last ∷ [])) s to led.1 lt in
+    let x : Sections = after_numbered s first in
+    let lt' : x.count < 2 ^ 32 - 1 = below-next first (between ++ (last ∷ [])) s to led.1 lt in
     let its = number-in first.section one.some in
-    let is : Some its.0 ≡ number_of s first.what first.thread first.mutex = sym its.1 ∙ led.0.section in
-    let only : Only (λ j. j ≡ first.mutex) (after_numbered s first) its.0 =
-    first-only s first.what first.thread first.mutex its.0 apart lt' one.no_end is in
+    let is : Some its.0 ≡ number_of s first.what first.thread = sym its.1 ∙ led.0.section in
+    let at = mutex-in (λ m. Only (λ j. j ≡ m) x its.0) (mutex_of first.what)
+    (first-only s first.what first.thread its.0 apart lt' one.no_end is) in
+    let so = mutex-in (λ j. j ≡ at.0) (mutex_of last.what)
+    (run (λ j. j ≡ at.0) between last x to its.0 at.1.1 led.1 lt other (e ∙ its.1)) in
     record {
-      mutex = run (λ j. j ≡ first.mutex) between last (after_numbered s first) to its.0 only led.1 lt other (e ∙ its.1);
+      m = at.0;
+      first_of = at.1.0;
+      last_of = so.1.0 ∙ ap (λ j. Some j) so.1.1;
       lasting = (
-        λ ends. run (λ _. ⊥) between last (after_numbered s first) to its.0
-            (first-gone s first.what first.thread first.mutex its.0 apart ends.is is) led.1 lt other (e ∙ its.1),
-        unended between last (after_numbered s first) to first.mutex its.0 only led.1 lt other (e ∙ its.1),
+        λ ends. no-mutex (mutex_of last.what) (run (λ _. ⊥) between last x to its.0
+            (first-gone s first.what first.thread at.0 its.0 apart ends is) led.1 lt other (e ∙ its.1)),
+        unended between last x to at.0 its.0 at.1.1 led.1 lt other (e ∙ its.1),
       );
     }
 
@@ -349,11 +360,10 @@ pub one-number : (first last : Fact) (between : List Fact) (s to : Sections) →
     AreTogether first between last → last.section ≡ first.section
 one-number first last between s to led one other are =
     let its = number-in first.section one.some in
-    let is : Some its.0 ≡ number_of s first.what first.thread first.mutex = sym its.1 ∙ led.0.section in
-    stay-run between last (after_numbered s first) to first.mutex its.0
-    (first-lasts s first.what first.thread first.mutex its.0 is one.no_end
-    (λ nobody. are.lasting.0 (record { mutex = refl; is = nobody })))
-    led.1 are.lasting.1 other are.mutex
+    let is : Some its.0 ≡ number_of s first.what first.thread = sym its.1 ∙ led.0.section in
+    stay-run between last (after_numbered s first) to are.m its.0
+    (first-lasts s first.what first.thread are.m its.0 is one.no_end are.first_of are.lasting.0)
+    led.1 are.lasting.1 other are.last_of
     ∙ sym its.1
 
 from-any : (before between : List Fact) (first last : Fact) (s to : Sections) → Apart s →
@@ -366,7 +376,7 @@ from-any [] between first last s to apart led lt one other = (
 )
 from-any (fact ∷ before) between first last s to apart led lt one other =
     from-any before between first last (after_numbered s fact) to
-    (apart-step s fact.what fact.thread fact.mutex apart
+    (apart-step s fact.what fact.thread apart
     (below-next fact (before ++ (first ∷ (between ++ (last ∷ [])))) s to led.1 lt))
     led.1 lt one other
 

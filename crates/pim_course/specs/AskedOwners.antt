@@ -4,7 +4,7 @@
 --
 -- The records behind one are in the order of their numbers, those before it the other way, so that the first is the nearest.
 use Rattle.std.specs.Prelude.{◌≡◌, ◌+◌, ◌-◌, ◌^◌, ◌<◌, ◌≤◌, ℕ, ◌==◌, nat_lt, Bool, false, true, ◌&&◌, ◌||◌, if◌then◌else◌}
-use Rattle.std.specs.Prelude.{List, [], ◌∷◌, length, slice_get, slice_index_or, find, is_some, IsSome, IfSome, Option, Some, None}
+use Rattle.std.specs.Prelude.{List, [], ◌∷◌, length, slice_get, slice_index_or, find, is_none, is_some, IsSome, IfSome, Option, Some, None}
 use Rattle.std.specs.Option.{option_and_then, option_map_or, option_or}
 use Rattle.pim_log.specs.Logs.{IsNumbered, began_of}
 use Rattle.pim_log.specs.declared.event.Event.{Event}
@@ -69,7 +69,7 @@ next_with_task ids m t task behind =
 
 -- whether processes share a mutex
 abbrev pub is_shared : Ids → ℕ → Bool
-is_shared ids m = option_map_or (λ mutex. mutex.process == 0) (slice_get ids.mutexes.items m) false
+is_shared ids m = option_map_or (λ mutex. is_none mutex.process) (slice_get ids.mutexes.items m) false
 
 -- whether a thread may own a mutex for which one of this process asks: it is of that process, too, or processes share the
 -- mutex
@@ -110,7 +110,7 @@ pub record FindsAsked (bytes : List ℕ) (ids : Ids) (next_owners : NextOwners) 
   pub is : IsAt bytes number r
   pub earlier : AreBelow bytes number before
   pub are : AreFrom bytes (number + 1) behind
-  pub asked : IsAsked ids (id_of ids number) r before behind (kept_of next_owners number)
+  pub asked : IfSome (id_of ids number) (λ m. IsAsked ids m r before behind (kept_of next_owners number))
 
 -- so it is of each record of a log from a number on
 abbrev pub FindsAskedFrom : List ℕ → Ids → NextOwners → ℕ → Type 0

@@ -48,4 +48,4 @@ thread_in course t = slice_index_or course.threads.items t idle
 abbrev pub family_in : Sources → ℕ → Family
 family_in sources m =
     unwrap_or (slice_index_or sources.ids.mutexes.items m
-    (record { process = 0; address = 0; family = None; ceiling = 0; is_recursive = false })).family Family.None
+    (record { process = None; address = 0; family = None; ceiling = 0; is_recursive = false })).family Family.None

@@ -1,5 +1,5 @@
 -- How often each mutex is locked after a record.
-use Rattle.std.specs.Prelude.{ℕ, ◌+◌, ◌-◌, ◌^◌, ◌==◌, min, Bool, false, not, ◌||◌, if◌then◌else◌, slice_get}
+use Rattle.std.specs.Prelude.{ℕ, ◌+◌, ◌-◌, ◌^◌, min, Bool, false, not, ◌||◌, if◌then◌else◌, slice_get}
 use Rattle.std.specs.Option.{option_map_or}
 use Rattle.pim_log.specs.declared.event.Event.{Event}
 use Rattle.pim_log.specs.declared.event.Event.TheVariants as event
@@ -24,12 +24,12 @@ depth_again ids depth m = if is_recursive_in ids m then but_for m (min (depth m 
 -- a thread is granted a mutex: it is locked once, unless the thread owns it
 abbrev pub depth_granted : Ids → World → (ℕ → ℕ) → ℕ → ℕ → ℕ → ℕ
 depth_granted ids world depth t m =
-    if m == 0 || is_that (world.owner m) t then depth_again ids depth m else but_for m 1 depth
+    if is_that (world.owner m) t then depth_again ids depth m else but_for m 1 depth
 
 -- a thread releases a mutex: it is locked once less, if the thread owns it and isn't refused
 abbrev pub depth_released : Sources → World → (ℕ → ℕ) → ℕ → ℕ → ℕ → ℕ → ℕ
 depth_released sources world depth number t m =
-    if m == 0 || not (is_that (world.owner m) t) || never_was (kept_of sources.next_owners number) then depth
+    if not (is_that (world.owner m) t) || never_was (kept_of sources.next_owners number) then depth
     else but_for m (depth m - 1) depth
 
 -- how often each mutex is locked after an event of a thread that is about a mutex
@@ -41,4 +41,6 @@ depth_after sources world depth number t m _ = depth
 -- how often each mutex is locked after a record in the course of a program
 abbrev pub depths_after : Sources → Course → Record → ℕ → ℕ
 depths_after sources course r =
-    depth_after sources (world_of course) (depths_of course) r.number r.thread (id_of sources.ids r.number) r.event
+    option_map_or
+    (λ m. depth_after sources (world_of course) (depths_of course) r.number r.thread m r.event)
+    (id_of sources.ids r.number) (depths_of course)

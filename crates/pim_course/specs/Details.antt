@@ -1,6 +1,6 @@
 -- What is known beside the facts after each record: the owners of waits, places in the code, and whether the record
 -- contradicts those before it. docs/FINDINGS.md, 'Facts', 'The owner of a wait' and 'Where in the code'.
-use Rattle.std.specs.Prelude.{ℕ, ◌==◌, nat_lt, Bool, true, false, not, ◌&&◌, ◌||◌, if◌then◌else◌, List, [], ◌∷◌, find}
+use Rattle.std.specs.Prelude.{ℕ, nat_lt, Bool, true, false, not, ◌&&◌, ◌||◌, if◌then◌else◌, List, [], ◌∷◌, find}
 use Rattle.std.specs.Prelude.{is_none, is_some, Option, Some, None}
 use Rattle.std.specs.Option.{option_and_then, option_flatten, option_map_or, option_or, unwrap_or}
 use Rattle.pim_log.specs.declared.event.Call.TheVariants.{TryLock}
@@ -188,31 +188,30 @@ abbrev pub is_contradicted : Sources → World → ℕ → ℕ → Details → B
 is_contradicted sources world t m details =
     not (is_that (world.awaits t) m && not (details.threads t).was_above) && is_above sources world t m
 
--- a REQUEST: its thread asks for its own mutex, or begins to wait, unless it waits for the mutex; nothing if that isn't
--- known
+-- a REQUEST: its thread asks for its own mutex, or begins to wait, unless it waits for the mutex
 abbrev pub details_requested : Sources → World → Details → Record → Mutex → Option ℕ → ℕ → Details
 details_requested sources world details r said task m =
     if is_that (world.owner m) r.thread then own_asked sources.ids r.thread m r.place details
-    else if m == 0 || is_that (world.awaits r.thread) m then details
+    else if is_that (world.awaits r.thread) m then details
     else
     wait_begun sources (corrected sources world m said) r.thread m (owner_asked sources world details r task m)
     (asked r.thread r.place details)
 
--- a GRANTED: its thread doesn't wait for its own mutex. Unless it owns this one, or that isn't known, the owner released
--- it, and the thread took it
+-- a GRANTED: its thread doesn't wait for its own mutex. Unless it owns this one, the owner released it, and the thread took
+-- it
 abbrev pub details_granted : Sources → World → Details → Record → Mutex → ℕ → Details
 details_granted sources world details r said m =
     let forgotten = own_forgotten r.thread details in
-    if m == 0 || is_that (world.owner m) r.thread then forgotten
+    if is_that (world.owner m) r.thread then forgotten
     else
     taken r m (freed (world.owner m) m (record forgotten {
       is_contradiction = is_contradicted sources (corrected sources world m said) r.thread m forgotten;
     }))
 
--- a RELEASE: its thread released the mutex, if that is known, and the thread owns it, locked it once, and isn't refused
+-- a RELEASE: its thread released the mutex, if it owns it, locked it once, and isn't refused
 abbrev pub details_released : Sources → World → (ℕ → ℕ) → Details → ℕ → ℕ → ℕ → Details
 details_released sources world depth details number t m =
-    if m == 0 || not (is_that (world.owner m) t) || never_was (kept_of sources.next_owners number) || nat_lt 1 (depth m) then
+    if not (is_that (world.owner m) t) || never_was (kept_of sources.next_owners number) || nat_lt 1 (depth m) then
     details
     else released t m details
 
@@ -229,8 +228,9 @@ details_by sources world depth details r m _ = details
 -- what is known after a record in the course of a program
 abbrev pub details_after : Sources → Course → Record → Details
 details_after sources course r =
-    details_by sources (world_of course) (depths_of course) (record (details_of course) { is_contradiction = false }) r
-    (id_of sources.ids r.number) r.event
+    let before = record (details_of course) { is_contradiction = false } in
+    option_map_or (λ m. details_by sources (world_of course) (depths_of course) before r m r.event)
+    (id_of sources.ids r.number) before
 
 -- what is known after a request that the log lacks: its thread begins to wait, if it waits for nothing and doesn't own
 -- the mutex, for the owner or the last one

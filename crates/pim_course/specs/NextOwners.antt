@@ -2,7 +2,7 @@
 --
 -- Each list of records here is in the order of their numbers, so its first record is the next one.
 use Rattle.std.specs.Prelude.{◌≡◌, ℕ, ◌+◌, ◌<◌, ◌≤◌, ◌-◌, ◌^◌, ◌==◌, Bool, true, false, not, ◌&&◌, if◌then◌else◌, List, []}
-use Rattle.std.specs.Prelude.{◌∷◌, length, slice_index_or, find, Option, Some, None, IfSome}
+use Rattle.std.specs.Prelude.{◌∷◌, length, slice_index_or, slice_set, find, Option, Some, None, IfSome}
 use Rattle.std.specs.Option.{option_and_then, option_map, option_map_or}
 use Rattle.pim_log.specs.Headers.{header_of, end_of}
 use Rattle.pim_log.specs.Logs.{IsNumbered}
@@ -53,9 +53,13 @@ is_condition _ = false
 abbrev pub is_that : Option ℕ → ℕ → Bool
 is_that number n = option_map_or (λ other. other == n) number false
 
+-- a list with this at a place, if there is one
+abbrev pub set_at : {A : Type 0} → Option ℕ → A → List A → List A
+set_at place is list = option_map_or (λ place. slice_set list place is) place list
+
 -- a record grants a mutex
 abbrev pub grants : Ids → ℕ → Record → Bool
-grants ids m r = is_granted r.event && id_of ids r.number == m
+grants ids m r = is_granted r.event && is_that (id_of ids r.number) m
 
 -- the thread that is granted a mutex next: that of the first GRANTED of it
 abbrev pub next_granted : Ids → ℕ → List Record → Option ℕ
@@ -63,7 +67,7 @@ next_granted ids m records = option_map (λ r. r.thread) (find (grants ids m) re
 
 -- the mutex of a GRANTED
 abbrev pub granted_by : Ids → Record → Option ℕ
-granted_by ids r = if is_granted r.event then Some (id_of ids r.number) else None
+granted_by ids r = if is_granted r.event then id_of ids r.number else None
 
 -- the mutex that a thread is granted before it calls anything else: of its first REQUEST, RELEASE, FAILED or GRANTED, if
 -- that is a GRANTED
@@ -73,7 +77,7 @@ granted_first ids t records =
 
 -- the mutex of a RELEASE_FAILED
 abbrev pub refused_by : Ids → Record → Option ℕ
-refused_by ids r = if is_release_failed r.event then Some (id_of ids r.number) else None
+refused_by ids r = if is_release_failed r.event then id_of ids r.number else None
 
 -- the mutex that a thread didn't release: of its first RELEASE or RELEASE_FAILED, if that is a RELEASE_FAILED
 abbrev pub refused_first : Ids → ℕ → List Record → Option ℕ
@@ -116,7 +120,7 @@ pub record Finds (bytes : List ℕ) (ids : Ids) (next_owners : NextOwners) (numb
   pub behind : List Record
   pub is : IsAt bytes number r
   pub are : AreFrom bytes (number + 1) behind
-  pub kept : IsKept ids (id_of ids number) r.thread r.event behind (kept_of next_owners number)
+  pub kept : IfSome (id_of ids number) (λ m. IsKept ids m r.thread r.event behind (kept_of next_owners number))
 
 -- so it is of each record of a log from a number on
 abbrev pub FindsFrom : List ℕ → Ids → NextOwners → ℕ → Type 0

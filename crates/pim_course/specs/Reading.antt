@@ -1,5 +1,5 @@
 -- How the record of a log changes the world.
-use Rattle.std.specs.Prelude.{◌≡◌, ◌⊎◌, ◌<◌, ℕ, List, [], length, slice_get, Option, None}
+use Rattle.std.specs.Prelude.{◌≡◌, ◌⊎◌, ◌<◌, ℕ, List, [], length, slice_get, IfSome, Option, None}
 use Rattle.std.specs.Option.{option_map_or}
 use Rattle.pim_log.specs.Events.{time_of}
 use Rattle.pim_log.specs.Headers.{header_of, end_of}
@@ -56,11 +56,11 @@ HasNumber course (event.Request _ _) number = number < length course.mutexes.ite
 HasNumber course (event.Granted _ _ _) number = number < length course.mutexes.items
 HasNumber course _ number = Unit {0}
 
--- a course has the thread of a record, and whom the record is about
-pub record HasThoseOf (course : Course) (r : Record) (number : ℕ) : Type 0 where
+-- a course has the thread of a record, and whom the record is about, if that is known
+pub record HasThoseOf (course : Course) (r : Record) (id : Option ℕ) : Type 0 where
   pub above : 0 < r.thread
   pub thread : r.thread < length course.threads.items
-  pub about : HasNumber course r.event number
+  pub about : IfSome id (HasNumber course r.event)
 
 -- a course has the thread of a request, which is for a mutex
 pub record HasRequest (course : Course) (request : Request) : Type 0 where

@@ -2,6 +2,7 @@
 use Rattle.std.specs.Prelude.{◌≡◌, ◌≢◌, ◌↔◌, ℕ, ◌+◌, ◌-◌, ◌^◌, ◌<◌, min, if◌then◌else◌, List, [], ◌∷◌, ◌++◌, Option, Some, None, is_none}
 use Rattle.std.specs.List.{AllByRecursion}
 use Rattle.std.specs.Option.{unwrap_or}
+use Rattle.pim_facts.specs.Shown.{mutex_of}
 use Rattle.pim_facts.specs.declared.fact.Fact.{Fact}
 use Rattle.pim_facts.specs.declared.fact.What.{What}
 use Rattle.pim_facts.specs.declared.fact.What.TheVariants.{Granted, Waits, GaveUp, Released, Level, Ceiling}
@@ -50,20 +51,20 @@ lasts_at sections m =
       count = if is_none (sections.lasting m) then next_number sections else sections.count;
     }
 
--- the number of the critical section in which this happens to a thread and a mutex: a thread gives up in the one in which
--- its wait began, and all else but a level, which is in none, happens in the one of the mutex; a grant and a wait are in
--- the next one if none lasts
-abbrev pub number_of : Sections → What → ℕ → ℕ → Option ℕ
-number_of sections Granted t m = Some (number_at sections m)
-number_of sections Waits t m = Some (number_at sections m)
-number_of sections GaveUp t m = sections.began t
-number_of sections (Released next) t m = sections.lasting m
-number_of sections (Level level) t m = None
-number_of sections (Ceiling ceiling) t m = sections.lasting m
+-- the number of the critical section in which this happens to a thread: a thread gives up in the one in which its wait
+-- began, and all else but a level, which is in none, happens in the one of the mutex; a grant and a wait are in the next
+-- one if none lasts
+abbrev pub number_of : Sections → What → ℕ → Option ℕ
+number_of sections (Granted m) t = Some (number_at sections m)
+number_of sections (Waits m) t = Some (number_at sections m)
+number_of sections (GaveUp m) t = sections.began t
+number_of sections (Released m next) t = sections.lasting m
+number_of sections (Level level) t = None
+number_of sections (Ceiling m level) t = sections.lasting m
 
 -- the critical section in which the thread began to wait that this happens to: of a grant, if its thread waited
 abbrev pub since_of : Sections → What → ℕ → Option ℕ
-since_of sections Granted t = sections.began t
+since_of sections (Granted m) t = sections.began t
 since_of sections _ t = None
 
 -- one thread more waits for the mutex, up to 2 ^ 32 - 1 of them
@@ -78,35 +79,35 @@ one_less_at m waiting = but_for m (waiting m - 1) waiting
 -- the mutex is handed over; a wait begins in the one of its mutex, and lasts until its thread is granted a mutex or gives
 -- up. A release sets who has the mutex next, and a grant takes that back. A wait counts one thread more at its mutex; a
 -- give-up, or a grant to one who waited, one fewer
-abbrev pub sections_after : Sections → What → ℕ → ℕ → Sections
-sections_after sections Granted t m =
+abbrev pub sections_after : Sections → What → ℕ → Sections
+sections_after sections (Granted m) t =
     record (lasts_at sections m) {
       next = but_for m None sections.next;
       waiting = if is_none (sections.began t) then sections.waiting else one_less_at m sections.waiting;
       began = but_for t None sections.began;
     }
-sections_after sections Waits t m =
+sections_after sections (Waits m) t =
     record (lasts_at sections m) {
       waiting = one_more_at m sections.waiting;
       began = but_for t (Some (number_at sections m)) sections.began;
     }
-sections_after sections GaveUp t m =
+sections_after sections (GaveUp m) t =
     record sections { waiting = one_less_at m sections.waiting; began = but_for t None sections.began }
-sections_after sections (Released next) t m =
+sections_after sections (Released m next) t =
     record sections {
       lasting = if is_none next then but_for m None sections.lasting else sections.lasting;
       next = but_for m next sections.next;
     }
-sections_after sections (Level level) t m = sections
-sections_after sections (Ceiling ceiling) t m = sections
+sections_after sections (Level level) t = sections
+sections_after sections (Ceiling m level) t = sections
 
 -- the critical sections after a fact
 abbrev pub after_numbered : Sections → Fact → Sections
-after_numbered sections fact = sections_after sections fact.what fact.thread fact.mutex
+after_numbered sections fact = sections_after sections fact.what fact.thread
 
 -- a fact has the number of its critical section, and a grant the one of that in which its thread began to wait, if it waited
 pub record HasNumbersOf (sections : Sections) (fact : Fact) : Type 0 where
-  pub section : fact.section ≡ number_of sections fact.what fact.thread fact.mutex
+  pub section : fact.section ≡ number_of sections fact.what fact.thread
   pub since : fact.since ≡ since_of sections fact.what fact.thread
 
 -- the facts have the numbers of their critical sections, and lead from the one state of these to the other
@@ -114,29 +115,26 @@ abbrev pub AreNumbered : List Fact → Sections → Sections → Type 0
 AreNumbered [] from to = to ≡ from
 AreNumbered (fact ∷ facts) from to = HasNumbersOf from fact × AreNumbered facts (after_numbered from fact) to
 
--- nobody has the mutex next
-abbrev pub IsToNobody : What → Type 0
-IsToNobody Granted = ⊥
-IsToNobody Waits = ⊥
-IsToNobody GaveUp = ⊥
-IsToNobody (Released next) = next ≡ None
-IsToNobody (Level level) = ⊥
-IsToNobody (Ceiling ceiling) = ⊥
-
 -- a fact ends the critical section of a mutex: a release by which it isn't handed over
-pub record Ends (m : ℕ) (fact : Fact) : Type 0 where
-  pub mutex : fact.mutex ≡ m
-  pub is : IsToNobody fact.what
+abbrev pub Ends : ℕ → Fact → Type 0
+Ends m fact = fact.what ≡ Released m None
+
+-- a thread stopped waiting
+abbrev pub IsGivenUp : What → Type 0
+IsGivenUp (GaveUp m) = Unit {0}
+IsGivenUp _ = ⊥
 
 -- a fact is in a critical section that lasts at its mutex: it has a number, and isn't the end of a wait
 pub record IsWithin (fact : Fact) : Type 0 where
   pub some : fact.section ≢ None
-  pub no_end : fact.what ≢ GaveUp
+  pub no_end : IsGivenUp fact.what → ⊥
 
 -- two facts of a log, the one before the other, are in one critical section: that of a mutex, which no fact ended meanwhile
 pub record AreTogether (first : Fact) (between : List Fact) (last : Fact) : Type 0 where
-  pub mutex : last.mutex ≡ first.mutex
-  pub lasting : AllByRecursion (λ fact. Ends first.mutex fact → ⊥) (first ∷ between)
+  pub m : ℕ
+  pub first_of : mutex_of first.what ≡ Some m
+  pub last_of : mutex_of last.what ≡ Some m
+  pub lasting : AllByRecursion (λ fact. Ends m fact → ⊥) (first ∷ between)
 
 -- Two facts within critical sections, the one before the other, have one number exactly if they are in one critical section:
 -- as long as there were fewer than 2 ^ 32 - 1 of them.

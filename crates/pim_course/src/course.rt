@@ -1,15 +1,15 @@
 //! The course of a recorded program: who owns and awaits what, record by record.
-ghost use Rattle.std.specs.Prelude.{◌≡◌, ◌<◌, ℕ, [], length, slice_set, IfOk, None};
+ghost use Rattle.std.specs.Prelude.{◌≡◌, ◌<◌, ℕ, [], length, slice_set, IfOk, None, Some};
 ghost use Rattle.std.specs.Option.{unwrap_or};
 ghost use Rattle.pim_facts.specs.Levels.{id_of, level_by};
 ghost use Rattle.pim_facts.specs.Shown.{shown_in};
 ghost use Rattle.pim_course.specs.Courses.{family_in, mutex_in, thread_in};
-ghost use Rattle.pim_course.specs.Depths.{depths_after, is_recursive_in};
-ghost use Rattle.pim_course.specs.Details.{added_details, details_after, details_of};
+ghost use Rattle.pim_course.specs.Depths.{depth_after, depths_after, is_recursive_in};
+ghost use Rattle.pim_course.specs.Details.{added_details, details_after, details_by, details_of};
 ghost use Rattle.pim_course.specs.Going.{GoesOn, HasSameSize, KeepsDepths, KeepsDetails, KeepsSections, Numbers, Tells};
 ghost use Rattle.pim_course.specs.Reading.{Begins, HasRequest, HasThoseOf, world_at};
 ghost use Rattle.pim_course.specs.Sections.{AreNumbered, sections_of};
-ghost use Rattle.pim_course.specs.Told.{added_told, ceiling_by_log, ceiling_told, depths_of, happened_in, level_told, told_by};
+ghost use Rattle.pim_course.specs.Told.{added_told, ceiling_by_log, ceiling_told, depths_of, event_told, happened_in, level_told, told_by};
 ghost use Rattle.pim_course.specs.World.{Lead, but_for, world_of};
 
 use crate::next_owners::NextOwners;
@@ -178,8 +178,29 @@ impl Course {
         ensures details { HasThoseOf self.old «record».now (id_of sources.now.ids «record».now.number) →
             details_of self.new ≡ details_after sources.now self.old «record».now }
     {
-        let id = sources.ids.of_record(record.number);
         self.is_contradiction = false;
+        match sources.ids.of_record(record.number) {
+            Some(id) => self.go_on(sources, record, id),
+            None => self.stay(record),
+        }
+    }
+
+    /// Goes on by a record that is about a thread or a mutex, which has this number.
+    fn go_on(&mut self, sources: &Sources, record: &Record, id: u32) -> LeftOut
+        ensures size { HasSameSize self.old self.new }
+        ensures depths { HasThoseOf self.old «record».now (Some id) → (m : ℕ) → depths_of self.new m ≡
+            depth_after sources.now (world_of self.old) (depths_of self.old) «record».now.number «record».now.thread id
+            «record».now.event m }
+        ensures shown { HasThoseOf self.old «record».now (Some id) → shown_in self.old.shown ≡ [] →
+            Lead (shown_in self.new.shown) (world_at self.old «record».now) (world_of self.new) }
+        ensures sections { HasThoseOf self.old «record».now (Some id) → shown_in self.old.shown ≡ [] →
+            AreNumbered (shown_in self.new.shown) (sections_of self.old) (sections_of self.new) }
+        ensures told { shown_in self.old.shown ≡ [] → happened_in self.new ≡ event_told sources.now (world_of self.old)
+            (depths_of self.old) «record».now.number «record».now.thread id «record».now.event }
+        ensures details { HasThoseOf self.old «record».now (Some id) → details_of self.new ≡
+            details_by sources.now (world_of self.old) (depths_of self.old) (details_of self.old) «record».now id
+            «record».now.event }
+    {
         match record.event {
             Event::Thread { priority, .. } => self.begin(record.thread, priority),
             Event::Priority { priority, .. } => self.set_level(id, priority),
@@ -188,6 +209,23 @@ impl Course {
             Event::Granted { mutex, .. } => self.grant(sources, record, &mutex, id),
             Event::Failed { .. } => self.fail(record.thread, id),
             Event::Release { .. } => self.release(sources, record, id),
+            _ => LeftOut::Remark,
+        }
+    }
+
+    /// Goes on by a record that is about nobody whom the log knows: the priority of such a thread is as it was.
+    fn stay(&mut self, record: &Record) -> LeftOut
+        ensures size { HasSameSize self.old self.new }
+        ensures depths { KeepsDepths self.old self.new }
+        ensures sections { KeepsSections self.old self.new }
+        ensures shown { self.new.shown ≡ self.old.shown }
+        ensures world { «record».now.thread < length self.old.threads.items →
+            world_of self.new ≡ world_at self.old «record».now }
+        ensures details { KeepsDetails self.old self.new }
+    {
+        match record.event {
+            Event::Thread { priority, .. } => self.begin(record.thread, priority),
+            Event::Priority { .. } => LeftOut::Unchanged,
             _ => LeftOut::Remark,
         }
     }
@@ -241,12 +279,12 @@ impl Course {
     {
         let mut is = self.thread(thread);
         let level = level_of(priority, is.level);
-        if thread == 0 || level == is.level {
+        if level == is.level {
             return LeftOut::Unchanged;
         }
         is.level = level;
         self.put_thread(thread, is);
-        self.shown.add(fact(What::Level(level), thread, 0, None));
+        self.shown.add(fact(What::Level(level), thread, None));
         LeftOut::Absentee
     }
 
@@ -294,8 +332,11 @@ impl Course {
         }
         is.ceiling = ceiling;
         self.put_mutex(mutex, is);
-        let corrected = fact(What::Ceiling(ceiling), thread, mutex, is.section);
-        self.shown.add(corrected);
+        let what = What::Ceiling {
+            mutex,
+            level: ceiling,
+        };
+        self.shown.add(fact(what, thread, is.section));
         true
     }
 }
@@ -325,13 +366,12 @@ pub(crate) fn is_recursive(ids: &Ids, mutex: u32) -> bool
     is.is_some_and(|is| is.is_recursive)
 }
 
-pub(crate) fn fact(what: What, thread: u32, mutex: u32, section: Option<u32>) -> Fact
-    ensures { result ≡ record { what = what; thread = thread; mutex = mutex; section = section; since = None } }
+pub(crate) fn fact(what: What, thread: u32, section: Option<u32>) -> Fact
+    ensures { result ≡ record { what = what; thread = thread; section = section; since = None } }
 {
     Fact {
         what,
         thread,
-        mutex,
         section,
         since: None,
     }

@@ -1,16 +1,18 @@
 //! Who owns a mutex next, and whose it is when a thread asks for it.
 ghost use Rattle.std.specs.Prelude.{◌≡◌, ◌≢◌, ◌+◌, ◌-◌, ◌<◌, ◌^◌, ◌==◌, ◌&&◌, ℕ, if◌then◌else◌, List, ◌∷◌, length, Some, None};
 ghost use Rattle.std.specs.Prelude.{is_some, IfOk, IfSome, slice_index_or, slice_set};
+ghost use Rattle.std.specs.Option.{option_and_then};
 ghost use Rattle.pim_log.specs.Logs.{began_of};
 ghost use Rattle.pim_facts.specs.Covering.{Covers, HasThoseOf};
-ghost use Rattle.pim_facts.specs.Levels.{id_of};
-ghost use Rattle.pim_facts.specs.Naming.{Names, last_begun, named_of, named_task};
+ghost use Rattle.pim_facts.specs.Levels.{id_in, id_of};
+ghost use Rattle.pim_facts.specs.Naming.{Names, last_begun, named_task};
 ghost use Rattle.pim_facts.specs.declared.ids.Ids.{Ids};
 ghost use Rattle.pim_log.specs.declared.record.Record.{Record};
 ghost use Rattle.pim_course.specs.AskedOwners.{AreTimed, FindsAskedFrom, HasAsked, IsAsked, KnowsCalls, is_after, may_own, named_owner, next_other, next_with_task, unnamed_kept};
 ghost use Rattle.pim_course.specs.Kept.{granted_by_kept, kept_by, kept_of, never_was, next_by};
 ghost use Rattle.pim_course.specs.NextOwners.{CoversThose, FindsFrom, HasRoom, IsKeepable, IsKept, Knows};
-ghost use Rattle.pim_course.specs.NextOwners.{is_call, is_granted, is_of_release, is_release_failed, is_that, next_owner, release_kept};
+ghost use Rattle.pim_course.specs.NextOwners.{is_call, is_granted, is_of_release, is_release_failed, is_that};
+ghost use Rattle.pim_course.specs.NextOwners.{next_owner, release_kept, set_at};
 
 use crate::lists::{get, set};
 use pim_facts::{Ids, Named};
@@ -129,11 +131,11 @@ impl NextOwners {
     /// Returns the thread that a REQUEST of which nothing is kept yet names, if it may own the mutex. One of another process
     /// may not, unless they share the mutex: a forked child has copies of mutexes that name its parent's thread.
     fn named(&self, ids: &Ids, record: &Record) -> Option<u32>
-        ensures { result ≡ named_owner ids.now (id_of ids.now «record».now.number) «record».now.process
-            (named_of self.now.kept.items «record».now.number) }
+        ensures { result ≡ option_and_then (λ m. named_owner ids.now m «record».now.process
+            (id_in self.now.kept.items «record».now.number)) (id_of ids.now «record».now.number) }
     {
         let thread = *self.kept.get(record.number as usize)?;
-        let mutex = ids.of_record(record.number);
+        let mutex = ids.of_record(record.number)?;
         if thread != 0 && may_own(ids, mutex, record.process, thread) {
             Some(thread)
         } else {
@@ -216,12 +218,13 @@ impl Coming {
             KnowsCalls ids.now behind self.old → KnowsCalls ids.now (record.now ∷ behind) self.new }
         ensures kept { (behind : List Record) → HasRoom ids.now self.old → Knows ids.now behind self.old →
             CoversThose ids.now behind → HasThoseOf ids.now record.now (id_of ids.now record.now.number) →
-            IsKept ids.now (id_of ids.now record.now.number) record.now.thread record.now.event behind result }
+            IfSome (id_of ids.now record.now.number)
+            (λ m. IsKept ids.now m record.now.thread record.now.event behind result) }
         ensures asked { (before behind : List Record) → HasRoom ids.now self.old → Knows ids.now behind self.old →
             KnowsCalls ids.now behind self.old → HasThoseOf ids.now record.now (id_of ids.now record.now.number) →
-            IfSome (named_task record.now.event) (λ task. named ≡
-            named_owner ids.now (id_of ids.now record.now.number) record.now.process (last_begun task before)) →
-            IsAsked ids.now (id_of ids.now record.now.number) record.now before behind result }
+            IfSome (id_of ids.now record.now.number) (λ m. IfSome (named_task record.now.event)
+            (λ task. named ≡ named_owner ids.now m record.now.process (last_begun task before)) →
+            IsAsked ids.now m record.now before behind result) }
     {
         let mutex = ids.of_record(record.number);
         let kept = self.kept(ids, record, named, mutex);
@@ -230,17 +233,20 @@ impl Coming {
         kept
     }
 
-    /// Returns what is kept of a record, which is of this mutex. A REQUEST names this thread.
-    fn kept(&self, ids: &Ids, record: &Record, named: Option<u32>, mutex: u32) -> Kept
+    /// Returns what is kept of a record, which is of this mutex, if of any. A REQUEST names this thread.
+    fn kept(&self, ids: &Ids, record: &Record, named: Option<u32>, mutex: Option<u32>) -> Kept
         ensures kept { (behind : List Record) → HasRoom ids.now self.now → Knows ids.now behind self.now →
             CoversThose ids.now behind → HasThoseOf ids.now record.now mutex →
-            IsKept ids.now mutex record.now.thread record.now.event behind result }
+            IfSome mutex (λ m. IsKept ids.now m record.now.thread record.now.event behind result) }
         ensures asked { (before behind : List Record) → HasRoom ids.now self.now → Knows ids.now behind self.now →
             KnowsCalls ids.now behind self.now → HasThoseOf ids.now record.now mutex →
-            IfSome (named_task record.now.event)
-            (λ task. named ≡ named_owner ids.now mutex record.now.process (last_begun task before)) →
-            IsAsked ids.now mutex record.now before behind result }
+            IfSome mutex (λ m. IfSome (named_task record.now.event)
+            (λ task. named ≡ named_owner ids.now m record.now.process (last_begun task before)) →
+            IsAsked ids.now m record.now before behind result) }
     {
+        let Some(mutex) = mutex else {
+            return Kept::Owner(None);
+        };
         match record.event {
             Event::Request { owner: None, .. } => self.next_if_asked(record, mutex),
             Event::Request {
@@ -256,20 +262,20 @@ impl Coming {
     }
 
     /// Learns whom a record grants its mutex, and what its thread calls.
-    fn learn(&mut self, record: &Record, mutex: u32)
+    fn learn(&mut self, record: &Record, mutex: Option<u32>)
         ensures owners { self.new.owners.items ≡ (if is_granted record.now.event
-            then slice_set self.old.owners.items mutex (Some record.now.thread) else self.old.owners.items) }
+            then set_at mutex (Some record.now.thread) self.old.owners.items else self.old.owners.items) }
         ensures granted { self.new.granted.items ≡ (if is_call record.now.event
-            then slice_set self.old.granted.items record.now.thread (if is_granted record.now.event then Some mutex else None)
+            then slice_set self.old.granted.items record.now.thread (if is_granted record.now.event then mutex else None)
             else self.old.granted.items) }
         ensures failing { self.new.failing.items ≡ (if is_of_release record.now.event
             then slice_set self.old.failing.items record.now.thread
-            (if is_release_failed record.now.event then Some mutex else None)
+            (if is_release_failed record.now.event then mutex else None)
             else self.old.failing.items) }
         ensures began { self.new.began.items ≡ (if is_granted record.now.event
-            then slice_set self.old.began.items mutex (began_of record.now) else self.old.began.items) }
+            then set_at mutex (began_of record.now) self.old.began.items else self.old.began.items) }
         ensures beginning { self.new.beginning.items ≡ (if is_granted record.now.event
-            then slice_set self.old.beginning.items record.now.thread (if is_some (began_of record.now) then None else Some mutex)
+            then slice_set self.old.beginning.items record.now.thread (if is_some (began_of record.now) then None else mutex)
             else self.old.beginning.items) }
     {
         match record.event {
@@ -281,7 +287,7 @@ impl Coming {
                 set(&mut self.failing, record.thread, None);
             }
             Event::Granted { .. } => self.read_grant(record, mutex),
-            Event::ReleaseFailed(_) => set(&mut self.failing, record.thread, Some(mutex)),
+            Event::ReleaseFailed(_) => set(&mut self.failing, record.thread, mutex),
             _ => {}
         }
     }
@@ -310,20 +316,22 @@ impl Coming {
         }
     }
 
-    fn read_grant(&mut self, record: &Record, mutex: u32)
-        ensures owners { self.new.owners.items ≡ slice_set self.old.owners.items mutex (Some record.now.thread) }
-        ensures granted { self.new.granted.items ≡ slice_set self.old.granted.items record.now.thread (Some mutex) }
+    fn read_grant(&mut self, record: &Record, mutex: Option<u32>)
+        ensures owners { self.new.owners.items ≡ set_at mutex (Some record.now.thread) self.old.owners.items }
+        ensures granted { self.new.granted.items ≡ slice_set self.old.granted.items record.now.thread mutex }
         ensures failing { self.new.failing ≡ self.old.failing }
-        ensures began { self.new.began.items ≡ slice_set self.old.began.items mutex (began_of record.now) }
+        ensures began { self.new.began.items ≡ set_at mutex (began_of record.now) self.old.began.items }
         ensures beginning { self.new.beginning.items ≡
-            slice_set self.old.beginning.items record.now.thread (if is_some (began_of record.now) then None else Some mutex) }
+            slice_set self.old.beginning.items record.now.thread (if is_some (began_of record.now) then None else mutex) }
     {
         let began = record.began();
-        let beginning = if began.is_none() { Some(mutex) } else { None };
-        set(&mut self.granted, record.thread, Some(mutex));
-        set(&mut self.owners, mutex, Some(record.thread));
+        let beginning = if began.is_none() { mutex } else { None };
+        set(&mut self.granted, record.thread, mutex);
         set(&mut self.beginning, record.thread, beginning);
-        set(&mut self.began, mutex, began);
+        if let Some(mutex) = mutex {
+            set(&mut self.owners, mutex, Some(record.thread));
+            set(&mut self.began, mutex, began);
+        }
     }
 
     /// Returns what is kept of a REQUEST that names no task: another thread that is granted the mutex next. It is a later one
@@ -410,7 +418,7 @@ fn may_own(ids: &Ids, mutex: u32, process: u32, thread: u32) -> bool
     ensures { result ≡ may_own ids.now mutex process thread }
 {
     let is_shared = match ids.mutexes.get(mutex as usize) {
-        Some(is) => is.process == 0,
+        Some(is) => is.process.is_none(),
         None => false,
     };
     match ids.threads.get(thread as usize) {

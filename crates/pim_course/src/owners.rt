@@ -35,7 +35,7 @@ impl Course {
         let thread = record.thread;
         let owner = self.mutex(mutex).owner;
         self.forget_own(thread);
-        if mutex == 0 || owner == Some(thread) {
+        if owner == Some(thread) {
             return self.grant_again(&sources.ids, mutex);
         }
         self.correct_ceiling(sources, thread, said, mutex);
@@ -99,9 +99,9 @@ impl Course {
             (m : ℕ) → depths_of self.new m ≡ but_for mutex 1 (depths_of self.old) m }
         ensures goes { «record».now.thread < length self.old.threads.items →
             mutex < length self.old.mutexes.items →
-            CanHappen (world_of self.old) What.Granted «record».now.thread mutex → GoesOn 1 self.old self.new }
+            CanHappen (world_of self.old) (What.Granted mutex) «record».now.thread → GoesOn 1 self.old self.new }
         ensures sections { mutex < length self.old.mutexes.items → Numbers 1 self.old self.new }
-        ensures told { Tells 1 (did What.Granted «record».now.thread mutex) self.old self.new }
+        ensures told { Tells 1 (did (What.Granted mutex) «record».now.thread) self.old self.new }
         ensures details { mutex < length self.old.mutexes.items →
             details_of self.new ≡ taken «record».now mutex (details_of self.old) }
     {
@@ -122,7 +122,7 @@ impl Course {
         is.depth = 1;
         self.put_thread(thread, owner);
         self.put_mutex(mutex, is);
-        let granted = fact(What::Granted, thread, mutex, Some(section));
+        let granted = fact(What::Granted(mutex), thread, Some(section));
         self.shown.add(Fact { since, ..granted });
     }
 
@@ -140,7 +140,7 @@ impl Course {
     {
         let thread = record.thread;
         let mut is = self.mutex(mutex);
-        if mutex == 0 || is.owner != Some(thread) {
+        if is.owner != Some(thread) {
             return LeftOut::NotOwner;
         }
         if sources.next_owners.is_refused(record.number) {
@@ -180,8 +180,8 @@ impl Course {
         is.depth = 0;
         is.section = heir.and(section);
         self.put_mutex(mutex, is);
-        self.shown
-            .add(fact(What::Released(heir), thread, mutex, section));
+        let what = What::Released { mutex, next: heir };
+        self.shown.add(fact(what, thread, section));
     }
 
     /// Returns the next owner of a mutex, if it waits for it.

@@ -39,7 +39,7 @@ impl Course {
             self.request_own(sources, record, mutex);
             return LeftOut::Again;
         }
-        if mutex == 0 || self.thread(thread).awaits == Some(mutex) {
+        if self.thread(thread).awaits == Some(mutex) {
             return LeftOut::Again;
         }
         self.correct_ceiling(sources, thread, said, mutex);
@@ -74,10 +74,10 @@ impl Course {
         ensures size { HasSameSize self.old self.new }
         ensures depths { KeepsDepths self.old self.new }
         ensures goes { thread < length self.old.threads.items →
-            CanHappen (world_of self.old) What.Waits thread mutex → GoesOn 1 self.old self.new }
+            CanHappen (world_of self.old) (What.Waits mutex) thread → GoesOn 1 self.old self.new }
         ensures sections { thread < length self.old.threads.items → mutex < length self.old.mutexes.items →
             Numbers 1 self.old self.new }
-        ensures told { Tells 1 (did What.Waits thread mutex) self.old self.new }
+        ensures told { Tells 1 (did (What.Waits mutex) thread) self.old self.new }
         ensures details { thread < length self.old.threads.items →
             details_of self.new ≡ wait_begun sources.now (world_of self.old) thread mutex owner (details_of self.old) }
     {
@@ -95,7 +95,7 @@ impl Course {
         awaited.waiting = awaited.waiting.saturating_add(1);
         self.put_mutex(mutex, awaited);
         self.shown
-            .add(fact(What::Waits, thread, mutex, Some(section)));
+            .add(fact(What::Waits(mutex), thread, Some(section)));
     }
 
     /// A thread asks for a mutex at a place in the code.
@@ -148,7 +148,7 @@ impl Course {
             details_of self.new ≡ own_forgotten thread (details_of self.old) }
     {
         self.forget_own(thread);
-        if mutex == 0 || self.thread(thread).awaits != Some(mutex) {
+        if self.thread(thread).awaits != Some(mutex) {
             return LeftOut::Refused;
         }
         self.stop_waiting(thread, mutex);
@@ -200,7 +200,7 @@ impl Course {
         ensures awaits { (world_of self.new).awaits thread ≡ None }
         ensures goes { (world_of self.old).awaits thread ≡ Some mutex → GoesOn 1 self.old self.new }
         ensures others { (k : ℕ) → k ≢ thread → (world_of self.new).awaits k ≡ (world_of self.old).awaits k }
-        ensures told { Tells 1 (did What.GaveUp thread mutex) self.old self.new }
+        ensures told { Tells 1 (did (What.GaveUp mutex) thread) self.old self.new }
         ensures details { KeepsDetails self.old self.new }
         ensures rest { world_of self.new ≡ record (world_of self.old) { awaits = (world_of self.new).awaits } }
     {
@@ -212,6 +212,6 @@ impl Course {
         let mut awaited = self.mutex(mutex);
         awaited.waiting = awaited.waiting.saturating_sub(1);
         self.put_mutex(mutex, awaited);
-        self.shown.add(fact(What::GaveUp, thread, mutex, section));
+        self.shown.add(fact(What::GaveUp(mutex), thread, section));
     }
 }

@@ -1,10 +1,13 @@
 -- How the records of a log are read one after the other.
-use Rattle.std.proofs.Common.{◌≡◌, ◌≢◌, ℕ, ◌+◌, ◌-◌, ◌*◌, ◌/◌, ◌^◌, ◌<◌, ◌≤◌, ◌%◌, ◌==◌, ◌&&◌, ◌||◌, nat_le, Bool, true, false, cond, List, length, get_or, set, Option, Some, None, MatchOption, refl, sym, ap, subst, ◌∙◌, inl, inr, eq-eqb, arith}
+use Rattle.std.proofs.Common.{◌≡◌, ◌≢◌, ℕ, ◌+◌, ◌-◌, ◌*◌, ◌/◌, ◌^◌, ◌<◌, ◌≤◌, ◌%◌, ◌==◌, ◌&&◌, ◌||◌, nat_le}
+use Rattle.std.proofs.Common.{Bool, true, false, cond, List, length, set, Option, Some, None, MatchOption, refl, sym, ap, subst}
+use Rattle.std.proofs.Common.{◌∙◌, inl, inr, eq-eqb, arith}
 use Rattle.std.proofs.Math.Nat.{mul-mod_right}
-use Rattle.std.proofs.lemmas.Bool.{cases_lt}
+use Rattle.std.proofs.lemmas.Bool.{cases_lt, eqb-true}
 use Rattle.std.proofs.lemmas.Bool.Decides.{nat_tests}
 use Rattle.std.proofs.lemmas.Grind.{get_or-set_at}
 use Rattle.std.proofs.lemmas.List.{get_or-set_other, length-set}
+use Rattle.std.specs.Prelude.{IfSome, unwrap_or}
 use Rattle.pim_log.specs.Events.{Says, mutex_of}
 use Rattle.pim_log.specs.Headers.{header_of, end_of}
 use Rattle.pim_log.specs.Logs.{IsLog, IsNumbered, IsRecord, IsSlot, fields_in, head_fault, head_of, mark_in, number_in, record_fault, slot_at, slot_fault, slots_of, thread_in}
@@ -15,8 +18,8 @@ use Rattle.pim_log.specs.declared.fields.Fields.{Fields}
 use Rattle.pim_log.specs.declared.fault.SlotFault.TheVariants.{DamagedHead, OutsideChunk}
 use Rattle.pim_log.specs.declared.mutex.Mutex.{Mutex}
 use Rattle.pim_log.specs.declared.record.Record.{Record}
-use Rattle.pim_facts.specs.Covering.{Covers, Grows, HasMutex, HasNumber, HasRead, HasThoseOf, HasThread}
-use Rattle.pim_facts.specs.Levels.{id_of}
+use Rattle.pim_facts.specs.Covering.{Covers, Grows, HasId, HasKnownMutex, HasRead, HasThoseOf, HasThread}
+use Rattle.pim_facts.specs.Levels.{id_in, id_of}
 use Rattle.pim_facts.specs.declared.ids.Ids.{Ids}
 
 -- a log has one record with a number
@@ -72,18 +75,49 @@ same-kind A B None (Some k) e h = cc
 same-kind A B (Some m) None e h = cc
 same-kind A B (Some m) (Some k) e h = h
 
+-- the number that stands for somebody in a list, where 0 stands for nobody
+abbrev pub of_number : ℕ → Option ℕ
+of_number n = cond (n == 0) None (Some n)
+
+pub not-zero : (n : ℕ) → 0 < n → (n == 0) ≡ false
+not-zero n above = elim (n == 0) as (λ b. (n == 0) ≡ b → (n == 0) ≡ false) [
+  | true ↦ λ e. let none : n ≡ 0 = eqb-true n 0 e in absurd (omega (arith, none, above))
+  | false ↦ λ e. e
+] refl
+
+if-nonzero : (P : ℕ → Type 0) (n : ℕ) (b : Bool) → P n → IfSome (cond b None (Some n)) P
+if-nonzero P n true h = tt
+if-nonzero P n false h = h
+
+-- whom an event is about is there, too, if a number stands for it, since no mutex has number 0
+kept-id : (ids : Ids) (id : Option ℕ) (o : Option Mutex) →
+    MatchOption o (IfSome id (HasThread ids)) (λ _. HasKnownMutex ids id) →
+    MatchOption o (IfSome (of_number (unwrap_or id 0)) (HasThread ids)) (λ _. HasKnownMutex ids (of_number (unwrap_or id 0)))
+kept-id ids None None has = tt
+kept-id ids (Some n) None has = if-nonzero (HasThread ids) n (n == 0) has
+kept-id ids None (Some m) has = has
+kept-id ids (Some n) (Some m) has =
+    subst (λ b. HasKnownMutex ids (cond b None (Some n))) (sym (not-zero n has.0)) has
+
 -- who is in some ids is in those that grew from them
-more : (a b : Ids) (k l : ℕ) (o : Option Mutex) → length a.threads.items ≤ length b.threads.items →
+more : (a b : Ids) (k l : Option ℕ) (o : Option Mutex) → length a.threads.items ≤ length b.threads.items →
     length a.mutexes.items ≤ length b.mutexes.items → l ≡ k →
-    MatchOption o (HasThread a k) (λ _. HasMutex a k) → MatchOption o (HasThread b l) (λ _. HasMutex b l)
-more a b k l None t m e h =
-    let was : k < length a.threads.items = h in
-    let is : l < length b.threads.items = omega (arith, t, e, was) in is
-more a b k l (Some z) t m e h =
-    let above : 0 < k = h.0 in
-    let was : k < length a.mutexes.items = h.1 in
-    let zero : 0 < l = omega (arith, e, above) in
-    let is : l < length b.mutexes.items = omega (arith, m, e, was) in (zero, is)
+    MatchOption o (IfSome k (HasThread a)) (λ _. HasKnownMutex a k) →
+    MatchOption o (IfSome l (HasThread b)) (λ _. HasKnownMutex b l)
+more a b k l o t m e has =
+    subst (λ i. MatchOption o (IfSome i (HasThread b)) (λ _. HasKnownMutex b i)) (sym e) (grown k o has)
+  where
+    grown : (k : Option ℕ) (o : Option Mutex) → MatchOption o (IfSome k (HasThread a)) (λ _. HasKnownMutex a k) →
+        MatchOption o (IfSome k (HasThread b)) (λ _. HasKnownMutex b k)
+    grown None None has = tt
+    grown (Some n) None has =
+        let was : n < length a.threads.items = has in
+        let is : n < length b.threads.items = omega (arith, t, was) in is
+    grown None (Some z) has = has
+    grown (Some n) (Some z) has =
+        let above : 0 < n = has.0 in
+        let was : n < length a.mutexes.items = has.1 in
+        let is : n < length b.mutexes.items = omega (arith, m, was) in (above, is)
 
 below-all : (k a b : ℕ) → k < a → a ≤ b → k < b
 below-all k a b lt le = omega (arith, lt, le)
@@ -179,9 +213,9 @@ later bytes n old new ended is read =
     subst (HasRead bytes n) (sym is) same
 
 -- behind a record
-pub reads : (bytes : List ℕ) (n : ℕ) (old mid new : Ids) (r : Record) (id : ℕ) →
+pub reads : (bytes : List ℕ) (n : ℕ) (old mid new : Ids) (r : Record) (id : Option ℕ) →
     ((slot : ℕ) × (IsNumbered bytes slot n × IsRecord bytes slot r)) → Grows old mid → HasThread mid r.thread →
-    r.thread ≤ 2 ^ 22 → HasNumber mid r.event id → new.of_record.items ≡ set mid.of_record.items n id →
+    r.thread ≤ 2 ^ 22 → HasId mid r.event id → new.of_record.items ≡ set mid.of_record.items n (unwrap_or id 0) →
     new ≡ record mid { of_record = new.of_record } → HasRead bytes n old → HasRead bytes (n + 1) new
 reads bytes n old mid new r id found grows thread few about put rest read =
     let s : ℕ = found.0 in
@@ -192,11 +226,11 @@ reads bytes n old mid new r id found grows thread few about put rest read =
     let t : length new.threads.items ≡ length mid.threads.items = ap (λ d. length d.threads.items) rest in
     let m : length new.mutexes.items ≡ length mid.mutexes.items = ap (λ d. length d.mutexes.items) rest in
     let room : length mid.of_record.items ≡ end_of (header_of bytes) = ap (λ v. length v.items) grows.about ∙ read.room in
-    let put_at : id_of new n ≡ id =
-    ap (λ l. get_or l n 0) put
-    ∙ get_or-set_at mid.of_record.items n n id 0 refl (subst (λ k. n < k) (sym room) num.below) in
+    let put_at : id_of new n ≡ of_number (unwrap_or id 0) =
+    ap (λ l. id_in l n) put ∙ ap of_number
+    (get_or-set_at mid.of_record.items n n (unwrap_or id 0) 0 refl (subst (λ k. n < k) (sym room) num.below)) in
     record {
-      room = ap length put ∙ length-set mid.of_record.items n id ∙ room;
+      room = ap length put ∙ length-set mid.of_record.items n (unwrap_or id 0) ∙ room;
       few = subst (λ n. n ≤ 2 ^ 22 + 1) (sym t) (grows.few read.few);
       mutexes = omega (arith, read.mutexes, grows.mutexes, m);
       covers = λ log slot number q lt numbered is. elim (cases_lt number n) [
@@ -204,8 +238,9 @@ reads bytes n old mid new r id found grows thread few about put rest read =
             let was : HasThoseOf old q (id_of old number) = read.covers log slot number q below numbered is in
             let other : number ≢ n = λ e. omega (arith, e, below) in
             let kept : id_of new number ≡ id_of old number =
-            ap (λ l. get_or l number 0) put ∙ get_or-set_other mid.of_record.items n number id 0 other
-            ∙ ap (λ v. get_or v.items number 0) grows.about in
+            ap (λ l. id_in l number) put
+            ∙ ap of_number (get_or-set_other mid.of_record.items n number (unwrap_or id 0) 0 other)
+            ∙ ap (λ v. id_in v.items number) grows.about in
             let t_le : length old.threads.items ≤ length new.threads.items = omega (arith, grows.threads, t) in
             let m_le : length old.mutexes.items ≤ length new.mutexes.items = omega (arith, grows.mutexes, m) in
             record {
@@ -228,8 +263,10 @@ reads bytes n old mid new r id found grows thread few about put rest read =
               few = subst (λ k. k ≤ 2 ^ 22) thread_is few;
               thread = subst (λ k. k < length new.threads.items) thread_is
                   (below-all r.thread (length mid.threads.items) (length new.threads.items) there t_le);
-              about = more mid new id (id_of new number) (mutex_of q.event) t_le m_le (ap (λ k. id_of new k) e ∙ put_at)
-                  (same-kind (HasThread mid id) (HasMutex mid id) (mutex_of r.event) (mutex_of q.event) kind about);
+              about = more mid new (of_number (unwrap_or id 0)) (id_of new number) (mutex_of q.event) t_le m_le
+                  (ap (λ k. id_of new k) e ∙ put_at) (kept-id mid id (mutex_of q.event)
+                  (same-kind (IfSome id (HasThread mid)) (HasKnownMutex mid id) (mutex_of r.event) (mutex_of q.event) kind
+                  about));
             }
       ];
     }

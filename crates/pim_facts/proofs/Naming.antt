@@ -1,6 +1,6 @@
 -- Which thread a REQUEST names, record by record.
 use Rattle.std.proofs.Common.{◌≡◌, ◌≢◌, ℕ, ◌+◌, ◌^◌, ◌<◌, ◌≤◌, ◌==◌, ◌&&◌, Bool, true, false, cond, List, [], ◌∷◌, length, set, Option, Some, None, refl, sym, ap, subst, ◌∙◌, inl, inr, arith}
-use Rattle.std.proofs.lemmas.Bool.{cases_lt, eqb-true}
+use Rattle.std.proofs.lemmas.Bool.{cases_lt}
 use Rattle.std.proofs.lemmas.Grind.{get_or-set_at}
 use Rattle.std.proofs.lemmas.List.{get_or-set_other, length-set}
 use Rattle.std.specs.Prelude.{IfSome, find, unwrap_or}
@@ -13,11 +13,11 @@ use Rattle.pim_log.specs.declared.event.Event.TheVariants as events
 use Rattle.pim_log.specs.declared.fields.Fields.{Fields}
 use Rattle.pim_log.specs.declared.record.Record.{Record}
 use Rattle.pim_facts.specs.Covering.{CoversBelow, HasThoseOf}
-use Rattle.pim_facts.specs.Levels.{id_of}
-use Rattle.pim_facts.specs.Naming.{AreBelow, HasNamed, IsAt, IsNamed, Names, begun, is_begin, last_begun, named_of, named_task}
+use Rattle.pim_facts.specs.Levels.{id_in, id_of}
+use Rattle.pim_facts.specs.Naming.{AreBelow, HasNamed, IsAt, IsNamed, Names, begun, is_begin, last_begun, named_task}
 use Rattle.pim_facts.specs.declared.ids.Ids.{Ids}
 use Rattle.pim_facts.specs.declared.tasks.Tasks.{Tasks}
-use Rattle.pim_facts.proofs.Covered.{same-slot}
+use Rattle.pim_facts.proofs.Covered.{not-zero, of_number, same-slot}
 
 -- the task that a REQUEST names, by the fields of its record
 abbrev task_in : Fields → ℕ → Option ℕ
@@ -116,17 +116,8 @@ lacks bytes n tasks none has = record {
   ];
 }
 
-not-zero : (t : ℕ) → 0 < t → (t == 0) ≡ false
-not-zero t above = elim (t == 0) as (λ b. (t == 0) ≡ b → (t == 0) ≡ false) [
-  | true ↦ λ e. let none : t ≡ 0 = eqb-true t 0 e in absurd (omega (arith, none, above))
-  | false ↦ λ e. e
-] refl
-
-abbrev of_number : ℕ → Option ℕ
-of_number t = cond (t == 0) None (Some t)
-
 named-put : (xs : List ℕ) (n : ℕ) (o : Option ℕ) → n < length xs → ((t : ℕ) → o ≡ Some t → 0 < t) →
-    named_of (set xs n (unwrap_or o 0)) n ≡ o
+    id_in (set xs n (unwrap_or o 0)) n ≡ o
 named-put xs n None lt above = ap of_number (get_or-set_at xs n n 0 0 refl lt)
 named-put xs n (Some t) lt above =
     ap of_number (get_or-set_at xs n n t 0 refl lt) ∙ ap (λ b. cond b None (Some t)) (not-zero t (above t refl))
@@ -140,7 +131,7 @@ put-long xs n last None = refl
 put-long xs n last (Some t) = length-set xs n (unwrap_or (last t) 0)
 
 put-other : (xs : List ℕ) (n k : ℕ) (last : ℕ → Option ℕ) (task : Option ℕ) → k ≢ n →
-    named_of (put_named xs n last task) k ≡ named_of xs k
+    id_in (put_named xs n last task) k ≡ id_in xs k
 put-other xs n k last None other = refl
 put-other xs n k last (Some t) other = ap of_number (get_or-set_other xs n k (unwrap_or (last t) 0) 0 other)
 
@@ -150,20 +141,20 @@ still-last None named still before same is = tt
 still-last (Some t) named still before same is = same ∙ is
 
 -- who is named by the record with a number stays
-pub still-named : (bytes old new : List ℕ) (number : ℕ) (r : Record) → named_of new number ≡ named_of old number →
+pub still-named : (bytes old new : List ℕ) (number : ℕ) (r : Record) → id_in new number ≡ id_in old number →
     IsNamed bytes old number r → IsNamed bytes new number r
 still-named bytes old new number r same is = record {
   before = is.before;
   are = is.are;
-  is = still-last (named_task r.event) (named_of old number) (named_of new number) is.before same is.is;
+  is = still-last (named_task r.event) (id_in old number) (id_in new number) is.before same is.is;
 }
 
 last-here : (bytes : List ℕ) (n : ℕ) (tasks : Tasks) (named : List ℕ) (task : Option ℕ) (has : HasNamed bytes n tasks) →
     n < length tasks.named.items → ((k t : ℕ) → begun tasks k ≡ Some t → 0 < t) →
-    named ≡ put_named tasks.named.items n (begun tasks) task → IfSome task (λ t. named_of named n ≡ last_begun t has.before)
+    named ≡ put_named tasks.named.items n (begun tasks) task → IfSome task (λ t. id_in named n ≡ last_begun t has.before)
 last-here bytes n tasks named None has lt above put = tt
 last-here bytes n tasks named (Some task) has lt above put =
-    ap (λ l. named_of l n) put ∙ named-put tasks.named.items n (begun tasks task) lt (above task) ∙ has.last task
+    ap (λ l. id_in l n) put ∙ named-put tasks.named.items n (begun tasks task) lt (above task) ∙ has.last task
 
 -- behind a record
 pub reads : (bytes : List ℕ) (n : ℕ) (ids : Ids) (old new : Tasks) (r : Record) → IsLog bytes →
@@ -196,7 +187,7 @@ reads bytes n ids old new r log found covers begins put has =
         | inl below ↦
             let other : number ≢ n = λ e. omega (arith, e, below) in
             still-named bytes old.named.items new.named.items number q
-            (ap (λ l. named_of l number) put-n ∙ put-other old.named.items n number (begun old) (named_task r.event) other)
+            (ap (λ l. id_in l number) put-n ∙ put-other old.named.items n number (begun old) (named_task r.event) other)
             (has.names slot number q below numbered is)
         | inr ge ↦
             let e : number ≡ n = omega (arith, lt, ge) in
@@ -226,6 +217,6 @@ named bytes n e tasks threads has is past same = record {
   room = ap length same ∙ has.room;
   each = λ slot number r lt numbered its.
       let below : number < n = omega (arith, lt, is, past) in
-      still-named bytes tasks.named.items threads number r (ap (λ l. named_of l number) same)
+      still-named bytes tasks.named.items threads number r (ap (λ l. id_in l number) same)
       (has.names slot number r below numbered its);
 }

@@ -1,5 +1,5 @@
 -- Whom the records of a log are about is there.
-use Rattle.std.specs.Prelude.{◌≡◌, ◌+◌, ◌<◌, ◌≤◌, ◌^◌, ℕ, List, length, MatchOption}
+use Rattle.std.specs.Prelude.{◌≡◌, ◌+◌, ◌<◌, ◌≤◌, ◌^◌, ℕ, List, length, IfSome, MatchOption, Option}
 use Rattle.pim_log.specs.Events.{mutex_of}
 use Rattle.pim_log.specs.Headers.{header_of, end_of}
 use Rattle.pim_log.specs.Logs.{IsLog, IsNumbered, IsRecord}
@@ -20,16 +20,20 @@ HasFewThreads ids = length ids.threads.items ≤ 2 ^ 22 + 1
 abbrev pub HasMutex : Ids → ℕ → Type 0
 HasMutex ids m = (0 < m) × (m < length ids.mutexes.items)
 
+-- there is a mutex that is known
+abbrev pub HasKnownMutex : Ids → Option ℕ → Type 0
+HasKnownMutex ids id = MatchOption id ⊥ (HasMutex ids)
+
 -- whom an event is about is there: a mutex if the event is of one, else a thread or nobody
-abbrev pub HasNumber : Ids → Event → ℕ → Type 0
-HasNumber ids event number = MatchOption (mutex_of event) (HasThread ids number) (λ _. HasMutex ids number)
+abbrev pub HasId : Ids → Event → Option ℕ → Type 0
+HasId ids event id = MatchOption (mutex_of event) (IfSome id (HasThread ids)) (λ _. HasKnownMutex ids id)
 
 -- the thread of a record is there, with a number from 1 to 2 ^ 22, and so is whom the record is about
-pub record HasThoseOf (ids : Ids) (r : Record) (number : ℕ) : Type 0 where
+pub record HasThoseOf (ids : Ids) (r : Record) (id : Option ℕ) : Type 0 where
   pub above : 0 < r.thread
   pub few : r.thread ≤ 2 ^ 22
   pub thread : HasThread ids r.thread
-  pub about : HasNumber ids r.event number
+  pub about : HasId ids r.event id
 
 -- those of each record of a log are there that has a number below one
 abbrev pub CoversBelow : ℕ → Ids → List ℕ → Type 0

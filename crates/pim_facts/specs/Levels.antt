@@ -1,5 +1,5 @@
 -- The levels of threads, and whom a record is about.
-use Rattle.std.specs.Prelude.{ℕ, nat_lt, ◌&&◌, min, if◌then◌else◌, slice_index_or, slice_get, Option, Some, None}
+use Rattle.std.specs.Prelude.{ℕ, ◌==◌, nat_lt, ◌&&◌, min, if◌then◌else◌, slice_index_or, slice_get, List, Option, Some, None}
 use Rattle.std.specs.Option.{option_and_then, option_map_or}
 use Rattle.pim_log.specs.declared.mutex.Mutex.{Mutex}
 use Rattle.pim_log.specs.declared.mutex.Protocol.{Protocol}
@@ -25,9 +25,14 @@ ceiling_by _ = None
 abbrev pub ceiling_said : Mutex → Option ℕ
 ceiling_said mutex = option_and_then (λ kind. ceiling_by kind.protocol) mutex.kind
 
--- whom the record with a number is about; 0 if it is about nobody
-abbrev pub id_of : Ids → ℕ → ℕ
-id_of ids number = slice_index_or ids.of_record.items number 0
+-- the number at a place of a list in which 0 stands for none
+abbrev pub id_in : List ℕ → ℕ → Option ℕ
+id_in numbers place =
+    if slice_index_or numbers place 0 == 0 then None else Some (slice_index_or numbers place 0)
+
+-- whom the record with a number is about, if it is about one
+abbrev pub id_of : Ids → ℕ → Option ℕ
+id_of ids number = id_in ids.of_record.items number
 
 -- the level that the first record of a thread says; 0 of a thread that there isn't
 abbrev pub first_level : Ids → ℕ → ℕ

@@ -1,7 +1,8 @@
 -- Which thread a REQUEST names: the last one that began with its task before.
 --
 -- Each list of records here has the latest one first.
-use Rattle.std.specs.Prelude.{◌≡◌, ◌+◌, ◌<◌, ◌≤◌, ℕ, ◌==◌, Bool, true, false, ◌&&◌, if◌then◌else◌, List, [], ◌∷◌, length, find, slice_index_or, IfSome, Option, Some, None}
+use Rattle.std.specs.Prelude.{◌≡◌, ◌+◌, ◌<◌, ◌≤◌, ℕ, ◌==◌, Bool, true, false, ◌&&◌, List, [], ◌∷◌}
+use Rattle.std.specs.Prelude.{length, find, IfSome, Option, None}
 use Rattle.std.specs.HashMap as hash
 use Rattle.std.specs.Option.{option_map}
 use Rattle.pim_log.specs.Headers.{header_of, end_of}
@@ -9,6 +10,7 @@ use Rattle.pim_log.specs.Logs.{IsNumbered, IsRecord}
 use Rattle.pim_log.specs.declared.event.Event.{Event}
 use Rattle.pim_log.specs.declared.event.Event.TheVariants as event
 use Rattle.pim_log.specs.declared.record.Record.{Record}
+use Rattle.pim_facts.specs.Levels.{id_in}
 use Rattle.pim_facts.specs.declared.tasks.Tasks.{Tasks}
 
 -- a record is the one of a log with this number
@@ -41,17 +43,12 @@ abbrev pub named_task : Event → Option ℕ
 named_task (event.Request _ task) = task
 named_task _ = None
 
--- the thread that is named by the record with a number, by a list in which 0 stands for none
-abbrev pub named_of : List ℕ → ℕ → Option ℕ
-named_of named number =
-    if slice_index_or named number 0 == 0 then None else Some (slice_index_or named number 0)
-
 -- by a list the record of a log with this number names the last thread that began before with its task, if it is a REQUEST
 -- that has one
 pub record IsNamed (bytes named : List ℕ) (number : ℕ) (r : Record) : Type 0 where
   pub before : List Record
   pub are : AreBelow bytes number before
-  pub is : IfSome (named_task r.event) (λ task. named_of named number ≡ last_begun task before)
+  pub is : IfSome (named_task r.event) (λ task. id_in named number ≡ last_begun task before)
 
 -- so it is of each record with a number below one
 abbrev pub NamesBelow : ℕ → List ℕ → List ℕ → Type 0

@@ -1,31 +1,51 @@
 //! What a record of a log shows.
-ghost use Rattle.std.specs.Prelude.{◌<◌};
+ghost use Rattle.std.specs.Prelude.{◌≡◌, ◌<◌};
+ghost use Rattle.pim_facts.specs.Shown.{mutex_of};
 
 /// What happened. Threads and mutexes have the numbers of [`Ids`](crate::Ids).
 #[derive(Clone, Copy, PartialEq, Eq)]
 pub enum What {
-    /// The thread owns the mutex, and waits for nothing.
-    Granted,
-    /// The thread waits for the mutex.
-    Waits,
-    /// The thread stopped waiting without the mutex.
-    GaveUp,
-    /// The thread released the mutex. This thread, if there is one, waits for it and has it next.
-    Released(Option<u32>),
+    /// The thread owns this mutex, and waits for nothing.
+    Granted(u32),
+    /// The thread waits for this mutex.
+    Waits(u32),
+    /// The thread stopped waiting for this mutex, without it.
+    GaveUp(u32),
+    /// The thread released a mutex.
+    Released {
+        mutex: u32,
+        /// The thread that waits for it and has it next, if there is one.
+        next: Option<u32>,
+    },
     /// The thread has this level from now on.
     Level(u8),
-    /// The PROTECT mutex has this level as its ceiling from now on.
-    Ceiling(u8),
+    /// A PROTECT mutex has another ceiling.
+    Ceiling {
+        mutex: u32,
+        /// The level of its ceiling from now on.
+        level: u8,
+    },
 }
 
-/// What a record shows of a thread and a mutex.
+impl What {
+    /// Returns the mutex that it is about: all but a level is about one.
+    pub fn mutex(self) -> Option<u32>
+        ensures { result ≡ mutex_of self }
+    {
+        match self {
+            What::Granted(mutex) | What::Waits(mutex) | What::GaveUp(mutex) => Some(mutex),
+            What::Released { mutex, .. } | What::Ceiling { mutex, .. } => Some(mutex),
+            What::Level(_) => None,
+        }
+    }
+}
+
+/// What a record shows of a thread.
 #[derive(Clone, Copy, PartialEq, Eq)]
 pub struct Fact {
     pub what: What,
     /// The thread that did it, or to which it happened.
     pub thread: u32,
-    /// The mutex, or 0.
-    pub mutex: u32,
     /// The critical section that it is a part of, if it is of one. It lasts from when the mutex is
     /// granted until it is free.
     pub section: Option<u32>,

@@ -17,9 +17,8 @@ const MOST_FACTS: usize = 4;
 
 /// What stands in the place of a fact that isn't shown.
 const NO_FACT: Fact = Fact {
-    what: What::GaveUp,
+    what: What::Level(0),
     thread: 0,
-    mutex: 0,
     section: None,
     since: None,
 };

@@ -1,8 +1,9 @@
 //! Whom each record of a log is about.
-ghost use Rattle.std.specs.Prelude.{◌≡◌, ◌+◌, ◌<◌, ◌≤◌, ◌^◌, IfErr, IfOk, length, slice_set};
+ghost use Rattle.std.specs.Prelude.{◌≡◌, ◌+◌, ◌<◌, ◌≤◌, ◌^◌, IfErr, IfOk, IfSome, length, slice_set};
+ghost use Rattle.std.specs.Option.{unwrap_or};
 ghost use Rattle.pim_log.specs.Headers.{header_of, end_of};
 ghost use Rattle.pim_log.specs.Logs.{IsLog};
-ghost use Rattle.pim_facts.specs.Covering.{Covers, Grows, HasFewThreads, HasMutex, HasNumber, HasRead, HasThread};
+ghost use Rattle.pim_facts.specs.Covering.{Covers, Grows, HasFewThreads, HasMutex, HasId, HasRead, HasThread};
 ghost use Rattle.pim_facts.specs.Levels.{id_of, first_level};
 ghost use Rattle.pim_facts.specs.Ending.{EndsAt, EndsBelow, later_of};
 ghost use Rattle.pim_facts.specs.Faults.{NamesOneOf, NamesOnly};
@@ -33,8 +34,8 @@ pub struct LoggedThread {
 /// A mutex of a log. A mutex that is initialised again is another one.
 #[derive(Clone, Copy, PartialEq, Eq)]
 pub struct LoggedMutex {
-    /// The kernel's number of its process, or 0 if processes share it.
-    pub process: u32,
+    /// The kernel's number of its process. `None` if processes share it.
+    pub process: Option<u32>,
     /// Where it is in the memory of the process.
     pub address: u64,
     /// Its protocol, if a record says it.
@@ -52,7 +53,8 @@ pub struct Ids {
     pub threads: Vec<LoggedThread>,
     /// The mutexes, from number 1 on in the order in which the log names them first. There is none with number 0.
     pub mutexes: Vec<LoggedMutex>,
-    /// By the number of each record the mutex, or the thread that is named or whose priority is set; else 0.
+    /// By the number of each record the mutex, or the thread that begins, is named or whose priority is set. 0 stands for
+    /// none, so that each takes four bytes.
     of_record: Vec<u32>,
     /// Which levels the log has.
     pub levels: [bool; 101],
@@ -63,7 +65,9 @@ pub struct Ids {
 /// What is known of addresses while a log is read.
 #[derive(Drop)]
 struct Places {
-    mutexes: HashMap<(u32, u64), u32>,
+    /// By process and address. Those that processes share are without a process.
+    mutexes: HashMap<(Option<u32>, u64), u32>,
+    /// By process and address.
     threads: HashMap<(u32, u64), u32>,
     /// By [`place_of`] an address the mutex that was found or began there last: most records find theirs here, without the
     /// search of the map.
@@ -122,7 +126,7 @@ impl Ids {
         threads.push(NO_THREAD)?;
         let mut mutexes = Vec::new(alloc);
         mutexes.push(LoggedMutex {
-            process: 0,
+            process: None,
             address: 0,
             family: None,
             ceiling: 0,
@@ -138,11 +142,13 @@ impl Ids {
         })
     }
 
-    /// Returns the mutex of the record with this number, or the thread that it names or whose priority it sets, or 0.
-    pub fn of_record(&self, number: u64) -> u32
+    /// Returns the mutex of the record with this number, or the thread that begins with it, that it names or whose priority
+    /// it sets. `None` if it is about nobody, or about a thread that the log doesn't know.
+    pub fn of_record(&self, number: u64) -> Option<u32>
         ensures { result ≡ id_of self.now number }
     {
-        self.of_record.get(number as usize).copied().unwrap_or(0)
+        let id = self.of_record.get(number as usize)?;
+        if *id == 0 { None } else { Some(*id) }
     }
 
     /// Returns the level that the first record of a thread says: 0 if there is no such thread.
@@ -155,12 +161,13 @@ impl Ids {
         }
     }
 
-    fn put(&mut self, number: u64, id: u32)
-        ensures about { self.new.of_record.items ≡ slice_set self.old.of_record.items number id }
+    /// Keeps whom the record with this number is about.
+    fn put(&mut self, number: u64, id: Option<u32>)
+        ensures about { self.new.of_record.items ≡ slice_set self.old.of_record.items number (unwrap_or id 0) }
         ensures rest { self.new ≡ record self.old { of_record = self.new.of_record } }
     {
         if (number as usize) < self.of_record.len() {
-            self.of_record[number as usize] = id;
+            self.of_record[number as usize] = id.unwrap_or(0);
         }
     }
 
@@ -196,16 +203,21 @@ impl Ids {
     }
 
     /// Learns what a record says, and returns whom it is about.
-    fn read(&mut self, places: &mut Places, tasks: &Tasks, record: &Record) -> Result<u32, IdsFault>
+    fn read(
+        &mut self,
+        places: &mut Places,
+        tasks: &Tasks,
+        record: &Record,
+    ) -> Result<Option<u32>, IdsFault>
         ensures fault { IfErr result (NamesOnly «record».now.number) }
         ensures grown { Grows self.old self.new }
         ensures thread { IfOk result (λ _. HasThread self.new «record».now.thread) }
         ensures few { IfOk result (λ _. «record».now.thread ≤ 2 ^ 22) }
-        ensures about { 0 < length self.old.mutexes.items → IfOk result (HasNumber self.new «record».now.event) }
+        ensures about { 0 < length self.old.mutexes.items → IfOk result (HasId self.new «record».now.event) }
     {
         self.read_thread(record)?;
         match record.event.mutex() {
-            Some(mutex) => Ok(self.read_mutex(places, record, &mutex)?),
+            Some(mutex) => Ok(Some(self.read_mutex(places, record, &mutex)?)),
             None => self.read_other(places, tasks, record),
         }
     }
@@ -236,20 +248,21 @@ impl Ids {
         }
     }
 
-    /// Learns what a record says that isn't of a mutex, and returns the thread that it is about, or 0.
+    /// Learns what a record says that isn't of a mutex, and returns the thread that it is about, if it is about one.
     fn read_other(
         &mut self,
         places: &mut Places,
         tasks: &Tasks,
         record: &Record,
-    ) -> Result<u32, IdsFault>
+    ) -> Result<Option<u32>, IdsFault>
         ensures fault { IfErr result (NamesOnly «record».now.number) }
         ensures grown { Grows self.old self.new }
-        ensures thread { HasThread self.old «record».now.thread → IfOk result (HasThread self.new) }
+        ensures thread { HasThread self.old «record».now.thread → IfOk result (λ id. IfSome id (HasThread self.new)) }
     {
         match record.event {
             Event::Thread { pthread, priority } => {
-                self.begin_thread(places, record, pthread, priority)
+                self.begin_thread(places, record, pthread, priority)?;
+                Ok(Some(record.thread))
             }
             Event::Name { pthread } => Ok(self.known(places.thread(record.process, pthread))),
             Event::Priority { of, priority } => {
@@ -260,19 +273,16 @@ impl Ids {
                 };
                 Ok(self.known(thread))
             }
-            _ => Ok(0),
+            _ => Ok(None),
         }
     }
 
-    /// Returns a thread that a record names, or 0 where the log doesn't know it.
-    fn known(&self, thread: Option<u32>) -> u32
-        ensures { 0 < length self.now.threads.items → HasThread self.now result }
+    /// Returns a thread that a record names, if there is one with the number.
+    fn known(&self, thread: Option<u32>) -> Option<u32>
+        ensures { IfSome result (HasThread self.now) }
     {
         // The maps have only numbers of threads, which isn't proved of them.
-        match thread {
-            Some(thread) if (thread as usize) < self.threads.len() => thread,
-            _ => 0,
-        }
+        thread.filter(|thread| (*thread as usize) < self.threads.len())
     }
 
     /// Makes room for the thread of a record.
@@ -325,10 +335,9 @@ impl Ids {
         record: &Record,
         pthread: u64,
         priority: Priority,
-    ) -> Result<u32, IdsFault>
+    ) -> Result<(), IdsFault>
         ensures fault { IfErr result (NamesOnly «record».now.number) }
         ensures grown { Grows self.old self.new }
-        ensures thread { IfOk result (λ thread. thread ≡ «record».now.thread) }
     {
         self.keep_level(level_of(priority, 1));
         self.begin_level(record.thread, level_of(priority, 0));
@@ -337,7 +346,7 @@ impl Ids {
             (record.process, pthread),
             record.thread,
         )?;
-        Ok(record.thread)
+        Ok(())
     }
 
     fn begin_level(&mut self, thread: u32, level: u8)
@@ -397,7 +406,7 @@ impl Ids {
             return Err(AllocError);
         }
         let number = count as u32;
-        let process = owner_of_place(record, mutex);
+        let process = process_of(record, mutex);
         let ceiling = ceiling_in(mutex);
         self.keep_ceiling(ceiling);
         self.mutexes.push(LoggedMutex {
@@ -448,9 +457,9 @@ impl Places {
 
     /// Returns the mutex at an address of this process by the map.
     fn search(&self, process: u32, address: u64) -> Option<u32> {
-        match self.mutexes.get(&(process, address)) {
+        match self.mutexes.get(&(Some(process), address)) {
             Some(found) => Some(*found),
-            None => self.mutexes.get(&(0, address)).copied(),
+            None => self.mutexes.get(&(None, address)).copied(),
         }
     }
 
@@ -475,24 +484,24 @@ impl Places {
     /// that wasn't shared.
     fn begin_mutex(
         &mut self,
-        process: u32,
+        process: Option<u32>,
         record: &Record,
         address: u64,
         mutex: u32,
     ) -> Result<(), AllocError> {
-        if process == 0 {
-            let _before = self.mutexes.remove(&(record.process, address));
+        if process.is_none() {
+            let _before = self.mutexes.remove(&(Some(record.process), address));
         }
         self.keep_found(record.process, address, mutex);
         put(&mut self.mutexes, (process, address), mutex)
     }
 }
 
-/// Returns the process of the mutex of a record: 0 for one that processes share.
-fn owner_of_place(record: &Record, mutex: &Mutex) -> u32 {
+/// Returns the process of the mutex of a record: none of one that processes share.
+fn process_of(record: &Record, mutex: &Mutex) -> Option<u32> {
     match mutex.kind {
-        Some(kind) if kind.is_shared => 0,
-        _ => record.process,
+        Some(kind) if kind.is_shared => None,
+        _ => Some(record.process),
     }
 }
 

@@ -2,13 +2,13 @@
 //!
 //! [`Ids`] has the threads and the mutexes of a log, and which of them each record is about.
 //! A mutex that is initialised again is another one, and so is one at the same address in another
-//! process. A [`Fact`] is what a record shows of a thread and a mutex: a grant, a wait, a
-//! release, another level or ceiling. [`LeftOut`] says why a record isn't in a trace.
+//! process. A [`Fact`] is what a record shows of a thread: a grant, a wait or a release of a mutex,
+//! another level or ceiling. [`LeftOut`] says why a record isn't in a trace.
 //!
 //! ```text
 //! let log = Log::read(alloc, &bytes)?;
 //! let (ids, named) = Ids::of(alloc, &log)?;
-//! ids.mutex(ids.of_record(12)); // Some: the mutex that record 12 is about
+//! ids.of_record(12); // Some: the number of the mutex that record 12 is about
 //! ```
 #![tactic(auto)]
 

@@ -67,13 +67,13 @@ finds-ended n k facts m old new ends gone reported threads at f = elim (cases_lt
     there t ne = at t ∙ ap (λ b. cond b None (wait_at old.waiting t)) (ne_eqb t m.fact.thread (λ e. ne (sym e)))
 
 -- a fact that begins a wait
-finds-begun : (n k : ℕ) (facts : List Moment) (m : Moment) (old new : Findings) (wait : FoundWait) → wait ≡ begun_wait m →
-    m.fact.what ≡ Waits →
+finds-begun : (n k : ℕ) (facts : List Moment) (m : Moment) (mutex : ℕ) (old new : Findings) (wait : FoundWait) →
+    wait ≡ begun_wait m mutex → m.fact.what ≡ Waits mutex →
     new.waits ≡ old.waits → length new.waiting.open.items ≡ length old.waiting.open.items →
     ((t : ℕ) → wait_at new.waiting t ≡ cond ((t == wait.thread) && nat_lt t (length old.waiting.open.items)) (Some wait)
     (wait_at old.waiting t)) →
     Finds n k facts old → Finds n k (and_fact n m facts) new
-finds-begun n k facts m old new wait e is waits threads at f = elim (cases_lt m.fact.thread n) [
+finds-begun n k facts m mutex old new wait e is waits threads at f = elim (cases_lt m.fact.thread n) [
   | inl lt ↦ subst (λ l. Finds n k l new) (sym (and_fact-known n m facts lt)) (record {
     ended = subst (λ l. AreReported k l new.waits)
         (sym (ap (λ b. cond b (and_until m.time false (wait_of facts m.fact.thread) (ended_waits facts)) (ended_waits facts))
@@ -102,15 +102,15 @@ finds-begun n k facts m old new wait e is waits threads at f = elim (cases_lt m.
     there t ne = at t ∙ ap (λ b. cond b (Some wait) (wait_at old.waiting t))
         (and_left _ _ (ne_eqb t wait.thread (λ same. ne (sym (same ∙ own)))))
 
-pub finds-begins : {T E : Type 0} (r : Result T E) (m : Moment) (old new : Findings) (wait : FoundWait) →
-    wait ≡ begun_wait m → m.fact.what ≡ Waits →
+pub finds-begins : {T E : Type 0} (r : Result T E) (m : Moment) (mutex : ℕ) (old new : Findings) (wait : FoundWait) →
+    wait ≡ begun_wait m mutex → m.fact.what ≡ Waits mutex →
     new.waits ≡ old.waits → length new.waiting.open.items ≡ length old.waiting.open.items →
     IfOk r (λ _. (t : ℕ) → wait_at new.waiting t ≡ cond ((t == wait.thread) && nat_lt t (length old.waiting.open.items))
     (Some wait) (wait_at old.waiting t)) →
     IfOk r (λ _. (n k : ℕ) (facts : List Moment) → Finds n k facts old → Finds n k (and_fact n m facts) new)
-finds-begins (Ok x) m old new wait e is waits threads at =
-    λ n k facts f. finds-begun n k facts m old new wait e is waits threads at f
-finds-begins (Err x) m old new wait e is waits threads at = tt
+finds-begins (Ok x) m mutex old new wait e is waits threads at =
+    λ n k facts f. finds-begun n k facts m mutex old new wait e is waits threads at f
+finds-begins (Err x) m mutex old new wait e is waits threads at = tt
 
 -- the waits of the threads below this one have ended with the log, and those of the others last
 pub record IsEnding (n k : ℕ) (facts : List Moment) (time thread : ℕ) (found : Findings) : Type 0 where

@@ -10,10 +10,12 @@ use Rattle.pim_facts.specs.declared.fact.What.TheVariants.{Granted, Waits, GaveU
 use Rattle.pim_course.specs.Courses.{family_in}
 use Rattle.pim_findings.specs.declared.found_wait.FoundWait.{FoundWait}
 use Rattle.pim_findings.specs.declared.waiting.Queued.{Queued}
+use Rattle.pim_findings.specs.declared.waiting.Release.{Release}
 use Rattle.pim_findings.specs.declared.waiting.Waiting.{Waiting}
 use Rattle.pim_findings.specs.declared.findings.Findings.{Findings}
 use Rattle.pim_findings.specs.Waits.{Moment, after_own, begun_wait, wait_of}
 use Rattle.pim_findings.specs.Longest.{capped}
+use Rattle.pim_findings.specs.Levels as levels
 use Rattle.pim_findings.specs.Levels.{before_release, is_protect}
 use Rattle.pim_findings.specs.Queue.{KeepsQueue, protects_at, queued_at}
 use Rattle.pim_findings.specs.Ownerships.{grants, is_grant, is_release, mutex_at, releases}
@@ -62,9 +64,10 @@ pub queued-ended : (m : Moment) (facts : List Moment) (t : ℕ) → m.fact.threa
     ((wait : Option FoundWait) → after_own m m.fact.what wait ≡ None) → queued_by (m ∷ facts) t ≡ None
 queued-ended m facts t e gone = ap (numbered (number_of (m ∷ facts) t) t) (wait_of-own m facts t e ∙ gone (wait_of facts t))
 
-pub queued-begun : (m : Moment) (facts : List Moment) (t : ℕ) → m.fact.thread ≡ t → m.fact.what ≡ Waits →
-    queued_by (m ∷ facts) t ≡ Some (record { number = begun_by (m ∷ facts); thread = t; mutex = m.fact.mutex })
-queued-begun m facts t e is =
+pub queued-begun : (m : Moment) (facts : List Moment) (t mutex : ℕ) → m.fact.thread ≡ t →
+    m.fact.what ≡ Waits mutex →
+    queued_by (m ∷ facts) t ≡ Some (record { number = begun_by (m ∷ facts); thread = t; mutex = mutex })
+queued-begun m facts t mutex e is =
     ap (λ n. numbered n t (wait_of (m ∷ facts) t))
     (number_of-one m facts t true (and_from _ _ (eq-eqb m.fact.thread t e) (ap begins_wait is)))
     ∙ ap (numbered (begun_by (m ∷ facts)) t) (wait_of-own m facts t e ∙ ap (λ what. after_own m what (wait_of facts t)) is)
@@ -91,7 +94,7 @@ protects_in list mutex = list_any (λ other. other == mutex) list
 -- ---- a fact that neither grants nor releases a mutex
 
 pub handed-still : (n k : ℕ) (facts : List Moment) (m : Moment) (old new : Findings) →
-    is_grant m.fact.what ≡ false → is_release m.fact.what ≡ false → new.mutexes ≡ old.mutexes →
+    ((one : ℕ) → grants one m ≡ false) → ((one : ℕ) → releases one m ≡ false) → new.mutexes ≡ old.mutexes →
     length new.waiting.open.items ≡ length old.waiting.open.items → new.waiting.begun ≡ begun_by (m ∷ facts) →
     ((t : ℕ) → queued_at new.waiting t ≡ queued_by (m ∷ facts) t) → KeepsQueue new.waiting →
     new.waiting.protecting ≡ old.waiting.protecting → HandsOver n k facts old → HandsOver n k (m ∷ facts) new
@@ -102,10 +105,10 @@ handed-still n k facts m old new no_grant no_release mutexes threads begun waits
   waits = waits;
   queue = queue;
   protects = λ mutex. ap (λ v. protects_in v.items mutex) protecting ∙ o.protects mutex
-      ∙ sym (protects_by-one m facts mutex false false (and_right _ _ no_release) (and_right _ _ no_grant));
-  left = λ mutex h. still_left (and_right _ _ no_grant) (and_right _ _ no_release)
+      ∙ sym (protects_by-one m facts mutex false false (no_release mutex) (no_grant mutex));
+  left = λ mutex h. still_left (no_grant mutex) (no_release mutex)
       (subst (λ v. IsLeft facts mutex (mutex_at v.items mutex).left) (sym mutexes) (o.left mutex h));
-  hand_overs = λ mutex h. by_other (and_right _ _ no_grant)
+  hand_overs = λ mutex h. by_other (no_grant mutex)
       (subst (λ v. AreHandOvers facts mutex (mutex_at v.items mutex).hand_overs) (sym mutexes) (o.hand_overs mutex h));
 }
 
@@ -127,7 +130,7 @@ handed-kept n k facts old new mutexes waiting o = record {
 
 -- nothing changes but the levels and ceilings
 pub handed-same : (n k : ℕ) (facts : List Moment) (m : Moment) (found : Findings) →
-    is_grant m.fact.what ≡ false → is_release m.fact.what ≡ false → begins_wait m.fact.what ≡ false →
+    ((one : ℕ) → grants one m ≡ false) → ((one : ℕ) → releases one m ≡ false) → begins_wait m.fact.what ≡ false →
     ((wait : Option FoundWait) → after_own m m.fact.what wait ≡ wait) → HandsOver n k facts found →
     HandsOver n k (m ∷ facts) found
 handed-same n k facts m found no_grant no_release no_begin same o =
@@ -135,18 +138,18 @@ handed-same n k facts m found no_grant no_release no_begin same o =
     (λ t. o.waits t ∙ sym (queued-same m facts t no_begin same)) o.queue refl o
 
 -- a wait begins
-pub handed-begun : (n k : ℕ) (facts : List Moment) (m : Moment) (old new : Findings) → m.fact.what ≡ Waits →
-    m.fact.thread < n →
+pub handed-begun : (n k : ℕ) (facts : List Moment) (m : Moment) (mutex : ℕ) (old new : Findings) →
+    m.fact.what ≡ Waits mutex → m.fact.thread < n →
     new.mutexes ≡ old.mutexes → length new.waiting.open.items ≡ length old.waiting.open.items →
     ((t : ℕ) → queued_at new.waiting t ≡ cond ((t == m.fact.thread) && nat_lt t (length old.waiting.open.items))
-    (Some (record { number = new.waiting.begun; thread = t; mutex = m.fact.mutex })) (queued_at old.waiting t)) →
+    (Some (record { number = new.waiting.begun; thread = t; mutex = mutex })) (queued_at old.waiting t)) →
     new.waiting.begun ≡ cond (nat_lt m.fact.thread (length old.waiting.open.items)) (capped (old.waiting.begun + 1))
     old.waiting.begun →
     (KeepsQueue old.waiting → KeepsQueue new.waiting) → new.waiting.protecting ≡ old.waiting.protecting →
     HandsOver n k facts old → HandsOver n k (m ∷ facts) new
-handed-begun n k facts m old new is lt mutexes threads at begun queue protecting o =
-    handed-still n k facts m old new (ap is_grant is) (ap is_release is) mutexes threads now waits
-    (queue o.queue) protecting o
+handed-begun n k facts m mutex old new is lt mutexes threads at begun queue protecting o =
+    handed-still n k facts m old new (λ one. ap (is_grant one) is) (λ one. ap (is_release one) is) mutexes threads
+    now waits (queue o.queue) protecting o
   where
     inside : nat_lt m.fact.thread (length old.waiting.open.items) ≡ true
     inside = lt-ltb _ _ (subst (λ l. m.fact.thread < l) (sym o.threads) lt)
@@ -163,18 +166,18 @@ handed-begun n k facts m old new is lt mutexes threads at begun queue protecting
     waits : (t : ℕ) → queued_at new.waiting t ≡ queued_by (m ∷ facts) t
     waits t = elim (cases_eq m.fact.thread t) [
       | inl e ↦ at t
-          ∙ ap (λ b. cond b (Some (record { number = new.waiting.begun; thread = t; mutex = m.fact.mutex }))
+          ∙ ap (λ b. cond b (Some (record { number = new.waiting.begun; thread = t; mutex = mutex }))
           (queued_at old.waiting t)) (own t e)
-          ∙ ap (λ n. Some (record { number = n; thread = t; mutex = m.fact.mutex })) now ∙ sym (queued-begun m facts t e is)
+          ∙ ap (λ n. Some (record { number = n; thread = t; mutex = mutex })) now ∙ sym (queued-begun m facts t mutex e is)
       | inr ne ↦ at t
-          ∙ ap (λ b. cond b (Some (record { number = new.waiting.begun; thread = t; mutex = m.fact.mutex }))
+          ∙ ap (λ b. cond b (Some (record { number = new.waiting.begun; thread = t; mutex = mutex }))
           (queued_at old.waiting t))
           (and_left _ _ (ne_eqb t m.fact.thread (λ e. ne (sym e))))
           ∙ o.waits t ∙ sym (queued-other m facts t ne)
     ]
 
-pub handed-begins : {T E : Type 0} (r : Result T E) (m : Moment) (old new : Findings) (wait : FoundWait) →
-    wait ≡ begun_wait m → m.fact.what ≡ Waits →
+pub handed-begins : {T E : Type 0} (r : Result T E) (m : Moment) (mutex : ℕ) (old new : Findings) (wait : FoundWait) →
+    wait ≡ begun_wait m mutex → m.fact.what ≡ Waits mutex →
     new.mutexes ≡ old.mutexes → length new.waiting.open.items ≡ length old.waiting.open.items →
     IfOk r (λ _. (t : ℕ) → queued_at new.waiting t ≡ cond ((t == wait.thread) && nat_lt t (length old.waiting.open.items))
     (Some (record { number = new.waiting.begun; thread = t; mutex = wait.mutex })) (queued_at old.waiting t)) →
@@ -183,15 +186,15 @@ pub handed-begins : {T E : Type 0} (r : Result T E) (m : Moment) (old new : Find
     IfOk r (λ _. KeepsQueue old.waiting → KeepsQueue new.waiting) → new.waiting.protecting ≡ old.waiting.protecting →
     IfOk r (λ _. (n k : ℕ) (facts : List Moment) → m.fact.thread < n → HandsOver n k facts old →
     HandsOver n k (m ∷ facts) new)
-handed-begins (Ok x) m old new wait e is mutexes threads at begun queue protecting = λ n k facts lt o.
-    handed-begun n k facts m old new is lt mutexes threads
+handed-begins (Ok x) m mutex old new wait e is mutexes threads at begun queue protecting = λ n k facts lt o.
+    handed-begun n k facts m mutex old new is lt mutexes threads
     (subst (λ (w : FoundWait). (t : ℕ) → queued_at new.waiting t
     ≡ cond ((t == w.thread) && nat_lt t (length old.waiting.open.items))
     (Some (record { number = new.waiting.begun; thread = t; mutex = w.mutex })) (queued_at old.waiting t)) e at)
     (subst (λ (w : FoundWait). new.waiting.begun ≡ cond (nat_lt w.thread (length old.waiting.open.items))
     (capped (old.waiting.begun + 1)) old.waiting.begun) e begun)
     queue protecting o
-handed-begins (Err x) m old new wait e is mutexes threads at begun queue protecting = tt
+handed-begins (Err x) m mutex old new wait e is mutexes threads at begun queue protecting = tt
 
 -- the waits after a fact that ends that of its thread
 waits-ended : (n k : ℕ) (facts : List Moment) (m : Moment) (old : Findings) (new : Waiting) →
@@ -206,13 +209,14 @@ waits-ended n k facts m old new gone at o t = elim (cases_eq m.fact.thread t) [
 ]
 
 -- a thread gives up
-pub handed-gave_up : (n k : ℕ) (facts : List Moment) (m : Moment) (old new : Findings) → m.fact.what ≡ GaveUp →
+pub handed-gave_up : (n k : ℕ) (facts : List Moment) (m : Moment) (mutex : ℕ) (old new : Findings) →
+    m.fact.what ≡ GaveUp mutex →
     new.mutexes ≡ old.mutexes → length new.waiting.open.items ≡ length old.waiting.open.items →
     ((t : ℕ) → queued_at new.waiting t ≡ cond (t == m.fact.thread) None (queued_at old.waiting t)) →
     new.waiting.begun ≡ old.waiting.begun → (KeepsQueue old.waiting → KeepsQueue new.waiting) →
     new.waiting.protecting ≡ old.waiting.protecting → HandsOver n k facts old → HandsOver n k (m ∷ facts) new
-handed-gave_up n k facts m old new is mutexes threads at begun queue protecting o =
-    handed-still n k facts m old new (ap is_grant is) (ap is_release is) mutexes threads
+handed-gave_up n k facts m mutex old new is mutexes threads at begun queue protecting o =
+    handed-still n k facts m old new (λ one. ap (is_grant one) is) (λ one. ap (is_release one) is) mutexes threads
     (begun ∙ o.begun ∙ sym (begun-same m facts (ap begins_wait is)))
     (waits-ended n k facts m old new.waiting (λ wait. ap (λ what. after_own m what wait) is) at o)
     (queue o.queue) protecting o
@@ -225,23 +229,25 @@ or-swap true false = refl
 or-swap false true = refl
 or-swap false false = refl
 
-pub handed-granted : (n k : ℕ) (facts : List Moment) (m : Moment) (old mid new : Findings) → m.fact.what ≡ Granted →
+pub handed-granted : (n k : ℕ) (facts : List Moment) (m : Moment) (mutex : ℕ) (old mid new : Findings) →
+    m.fact.what ≡ Granted mutex →
     length mid.mutexes.items ≡ length old.mutexes.items →
     mid.waiting ≡ record old.waiting { protecting = mid.waiting.protecting } →
-    ((mutex : ℕ) → protects_at mid.waiting mutex
-    ≡ (protects_at old.waiting mutex || ((m.fact.mutex == mutex) && is_protect (family_in m.sources m.fact.mutex)))) →
-    ((mutex : ℕ) → mutex < length old.mutexes.items →
-    (mutex_at mid.mutexes.items mutex).left ≡ cond (mutex == m.fact.mutex) None (mutex_at old.mutexes.items mutex).left) →
-    (KeepsQueue old.waiting → m.fact.mutex < length old.mutexes.items →
-    HandsOn (queued_at old.waiting) m.fact.thread m.fact.mutex (mutex_at old.mutexes.items m.fact.mutex).left
-    (mutex_at old.mutexes.items m.fact.mutex).hand_overs (mutex_at mid.mutexes.items m.fact.mutex).hand_overs) →
-    ((mutex : ℕ) → mutex < length old.mutexes.items → mutex ≢ m.fact.mutex →
-    (mutex_at mid.mutexes.items mutex).hand_overs ≡ (mutex_at old.mutexes.items mutex).hand_overs) →
+    ((one : ℕ) → protects_at mid.waiting one
+    ≡ (protects_at old.waiting one || ((mutex == one) && is_protect (family_in m.sources mutex)))) →
+    ((one : ℕ) → one < length old.mutexes.items →
+    (mutex_at mid.mutexes.items one).left ≡ cond (one == mutex) None (mutex_at old.mutexes.items one).left) →
+    (KeepsQueue old.waiting → mutex < length old.mutexes.items →
+    HandsOn (queued_at old.waiting) m.fact.thread mutex (mutex_at old.mutexes.items mutex).left
+    (mutex_at old.mutexes.items mutex).hand_overs (mutex_at mid.mutexes.items mutex).hand_overs) →
+    ((one : ℕ) → one < length old.mutexes.items → one ≢ mutex →
+    (mutex_at mid.mutexes.items one).hand_overs ≡ (mutex_at old.mutexes.items one).hand_overs) →
     new.mutexes ≡ mid.mutexes → length new.waiting.open.items ≡ length mid.waiting.open.items →
     ((t : ℕ) → queued_at new.waiting t ≡ cond (t == m.fact.thread) None (queued_at mid.waiting t)) →
     new.waiting.begun ≡ mid.waiting.begun → (KeepsQueue mid.waiting → KeepsQueue new.waiting) →
     new.waiting.protecting ≡ mid.waiting.protecting → HandsOver n k facts old → HandsOver n k (m ∷ facts) new
-handed-granted n k facts m old mid new is len same protects left handed others mutexes threads at begun queue protecting o =
+handed-granted n k facts m mutex old mid new is len same protects left handed others mutexes threads at begun queue
+    protecting o =
     record {
       threads = threads ∙ ap (λ w. length w.open.items) same ∙ o.threads;
       mutexes = ap (λ v. length v.items) mutexes ∙ len ∙ o.mutexes;
@@ -249,123 +255,112 @@ handed-granted n k facts m old mid new is len same protects left handed others m
       waits = waits-ended n k facts m old new.waiting (λ wait. ap (λ what. after_own m what wait) is) was o;
       queue = queue (queue-kept old.waiting mid.waiting (ap (λ w. w.open) same) (ap (λ w. w.queue) same)
           (ap (λ w. length w.effective.items) same) o.queue);
-      protects = λ mutex. ap (λ v. protects_in v.items mutex) protecting ∙ protects mutex
-          ∙ ap (λ b. b || ((m.fact.mutex == mutex) && is_protect (family_in m.sources m.fact.mutex))) (o.protects mutex)
-          ∙ or-swap (protects_by facts mutex) ((m.fact.mutex == mutex) && is_protect (family_in m.sources m.fact.mutex))
-          ∙ ap (λ b. b || protects_by facts mutex) (same-family mutex)
-          ∙ sym (protects_by-one m facts mutex false (m.fact.mutex == mutex) (no-release mutex) (grants-own mutex));
-      left = λ mutex h. subst (λ v. IsLeft (m ∷ facts) mutex (mutex_at v.items mutex).left) (sym mutexes)
-          (elim (cases_eq mutex m.fact.mutex) [
-            | inl e ↦ subst (IsLeft (m ∷ facts) mutex)
-                (sym (left mutex (inside mutex h) ∙ ap (λ b. cond b None (mutex_at old.mutexes.items mutex).left)
-                (eq-eqb mutex m.fact.mutex e)))
-                (taken (grants-own mutex ∙ eq-eqb m.fact.mutex mutex (sym e)))
-            | inr ne ↦ subst (IsLeft (m ∷ facts) mutex)
-                (sym (left mutex (inside mutex h) ∙ ap (λ b. cond b None (mutex_at old.mutexes.items mutex).left)
-                (ne_eqb mutex m.fact.mutex ne)))
-                (still_left (grants-own mutex ∙ ne_eqb m.fact.mutex mutex (λ e. ne (sym e)))
-                (no-release mutex) (o.left mutex h))
+      protects = λ one. ap (λ v. protects_in v.items one) protecting ∙ protects one
+          ∙ ap (λ b. b || ((mutex == one) && is_protect (family_in m.sources mutex))) (o.protects one)
+          ∙ or-swap (protects_by facts one) ((mutex == one) && is_protect (family_in m.sources mutex))
+          ∙ ap (λ b. b || protects_by facts one) (same-family one)
+          ∙ sym (protects_by-one m facts one false (mutex == one) (no-release one) (grants-own one));
+      left = λ one h. subst (λ v. IsLeft (m ∷ facts) one (mutex_at v.items one).left) (sym mutexes)
+          (elim (cases_eq one mutex) [
+            | inl e ↦ subst (IsLeft (m ∷ facts) one)
+                (sym (left one (inside one h) ∙ ap (λ b. cond b None (mutex_at old.mutexes.items one).left)
+                (eq-eqb one mutex e)))
+                (taken (grants-own one ∙ eq-eqb mutex one (sym e)))
+            | inr ne ↦ subst (IsLeft (m ∷ facts) one)
+                (sym (left one (inside one h) ∙ ap (λ b. cond b None (mutex_at old.mutexes.items one).left)
+                (ne_eqb one mutex ne)))
+                (still_left (grants-own one ∙ ne_eqb mutex one (λ e. ne (sym e)))
+                (no-release one) (o.left one h))
           ]);
-      hand_overs = λ mutex h. subst (λ v. AreHandOvers (m ∷ facts) mutex (mutex_at v.items mutex).hand_overs) (sym mutexes)
-          (elim (cases_eq mutex m.fact.mutex) [
+      hand_overs = λ one h. subst (λ v. AreHandOvers (m ∷ facts) one (mutex_at v.items one).hand_overs) (sym mutexes)
+          (elim (cases_eq one mutex) [
             | inl e ↦ subst (λ one. AreHandOvers (m ∷ facts) one (mutex_at mid.mutexes.items one).hand_overs) (sym e)
                 (granted (subst (λ one. one < k) e h))
-            | inr ne ↦ by_other (grants-own mutex ∙ ne_eqb m.fact.mutex mutex (λ e. ne (sym e)))
-                (subst (AreHandOvers facts mutex) (sym (others mutex (inside mutex h) ne)) (o.hand_overs mutex h))
+            | inr ne ↦ by_other (grants-own one ∙ ne_eqb mutex one (λ e. ne (sym e)))
+                (subst (AreHandOvers facts one) (sym (others one (inside one h) ne)) (o.hand_overs one h))
           ]);
     }
   where
-    inside : (mutex : ℕ) → mutex < k → mutex < length old.mutexes.items
-    inside mutex h = subst (λ l. mutex < l) (sym o.mutexes) h
+    inside : (one : ℕ) → one < k → one < length old.mutexes.items
+    inside one h = subst (λ l. one < l) (sym o.mutexes) h
 
     was : (t : ℕ) → queued_at new.waiting t ≡ cond (t == m.fact.thread) None (queued_at old.waiting t)
     was t = at t ∙ ap (λ w. cond (t == m.fact.thread) None (queued_at w t)) same
 
-    grants-own : (mutex : ℕ) → grants mutex m ≡ (m.fact.mutex == mutex)
-    grants-own mutex = by (m.fact.mutex == mutex) (is_grant m.fact.what) (ap is_grant is)
-      where
-        by : (a b : Bool) → b ≡ true → (a && b) ≡ a
-        by true b e = e
-        by false b e = refl
+    grants-own : (one : ℕ) → grants one m ≡ (mutex == one)
+    grants-own one = ap (is_grant one) is
 
-    no-release : (mutex : ℕ) → releases mutex m ≡ false
-    no-release mutex = and_right _ _ (ap is_release is)
+    no-release : (one : ℕ) → releases one m ≡ false
+    no-release one = ap (is_release one) is
 
-    same-family : (mutex : ℕ) → ((m.fact.mutex == mutex) && is_protect (family_in m.sources m.fact.mutex))
-        ≡ ((m.fact.mutex == mutex) && is_protect (family_in m.sources mutex))
-    same-family mutex = elim (cases_eq m.fact.mutex mutex) [
-      | inl e ↦ ap (λ one. (m.fact.mutex == mutex) && is_protect (family_in m.sources one)) e
-      | inr ne ↦ and_left _ _ (ne_eqb m.fact.mutex mutex ne) ∙ sym (and_left _ _ (ne_eqb m.fact.mutex mutex ne))
+    same-family : (one : ℕ) → ((mutex == one) && is_protect (family_in m.sources mutex))
+        ≡ ((mutex == one) && is_protect (family_in m.sources one))
+    same-family one = elim (cases_eq mutex one) [
+      | inl e ↦ ap (λ other. (mutex == one) && is_protect (family_in m.sources other)) e
+      | inr ne ↦ and_left _ _ (ne_eqb mutex one ne) ∙ sym (and_left _ _ (ne_eqb mutex one ne))
     ]
 
-    granted : m.fact.mutex < k → AreHandOvers (m ∷ facts) m.fact.mutex (mutex_at mid.mutexes.items m.fact.mutex).hand_overs
-    granted h = by_grant (grants-own m.fact.mutex ∙ eq-eqb m.fact.mutex m.fact.mutex refl) (o.left m.fact.mutex h)
-        (o.hand_overs m.fact.mutex h)
-        (subst (λ waits. HandsOn waits m.fact.thread m.fact.mutex (mutex_at old.mutexes.items m.fact.mutex).left
-        (mutex_at old.mutexes.items m.fact.mutex).hand_overs (mutex_at mid.mutexes.items m.fact.mutex).hand_overs)
-        (fun_ext o.waits) (handed o.queue (inside m.fact.mutex h)))
+    granted : mutex < k → AreHandOvers (m ∷ facts) mutex (mutex_at mid.mutexes.items mutex).hand_overs
+    granted h = by_grant (grants-own mutex ∙ eq-eqb mutex mutex refl) (o.left mutex h)
+        (o.hand_overs mutex h)
+        (subst (λ waits. HandsOn waits m.fact.thread mutex (mutex_at old.mutexes.items mutex).left
+        (mutex_at old.mutexes.items mutex).hand_overs (mutex_at mid.mutexes.items mutex).hand_overs)
+        (fun_ext o.waits) (handed o.queue (inside mutex h)))
 
 -- ---- a mutex is released
 
-pub handed-released : (n k : ℕ) (facts : List Moment) (m : Moment) (old new : Findings) →
-    is_grant m.fact.what ≡ false → is_release m.fact.what ≡ true → begins_wait m.fact.what ≡ false →
-    ((wait : Option FoundWait) → after_own m m.fact.what wait ≡ wait) →
+-- the release of a mutex by the thread of a fact
+abbrev release_of : Moment → ℕ → Release
+release_of m mutex = record { thread = m.fact.thread; mutex = mutex }
+
+pub handed-released : (n k : ℕ) (facts : List Moment) (m : Moment) (mutex : ℕ) (old new : Findings) →
+    ((one : ℕ) → grants one m ≡ false) → ((one : ℕ) → releases one m ≡ (mutex == one)) →
+    begins_wait m.fact.what ≡ false → ((wait : Option FoundWait) → after_own m m.fact.what wait ≡ wait) →
     length new.mutexes.items ≡ length old.mutexes.items →
     new.waiting ≡ record old.waiting { protecting = new.waiting.protecting; effective = new.waiting.effective } →
     length new.waiting.effective.items ≡ length old.waiting.effective.items →
-    ((mutex : ℕ) → protects_at new.waiting mutex ≡ (not (m.fact.mutex == mutex) && protects_at old.waiting mutex)) →
-    (KeepsQueue old.waiting → m.fact.mutex < length old.mutexes.items →
-    Leaves (before_release m.sources m.course m.fact (queued_at old.waiting) (protects_at old.waiting))
-    m.fact.mutex m.fact.thread old.waiting.begun (mutex_at new.mutexes.items m.fact.mutex).left) →
-    ((mutex : ℕ) → mutex < length old.mutexes.items → mutex ≢ m.fact.mutex →
-    (mutex_at new.mutexes.items mutex).left ≡ (mutex_at old.mutexes.items mutex).left) →
-    ((mutex : ℕ) → mutex < length old.mutexes.items → (mutex_at new.mutexes.items mutex).hand_overs
-    ≡ (mutex_at old.mutexes.items mutex).hand_overs) →
+    ((one : ℕ) → protects_at new.waiting one ≡ (not (mutex == one) && protects_at old.waiting one)) →
+    (KeepsQueue old.waiting → mutex < length old.mutexes.items →
+    Leaves (before_release m.sources m.course (release_of m mutex) (queued_at old.waiting) (protects_at old.waiting))
+    mutex m.fact.thread old.waiting.begun (mutex_at new.mutexes.items mutex).left) →
+    ((one : ℕ) → one < length old.mutexes.items → one ≢ mutex →
+    (mutex_at new.mutexes.items one).left ≡ (mutex_at old.mutexes.items one).left) →
+    ((one : ℕ) → one < length old.mutexes.items → (mutex_at new.mutexes.items one).hand_overs
+    ≡ (mutex_at old.mutexes.items one).hand_overs) →
     HandsOver n k facts old → HandsOver n k (m ∷ facts) new
-handed-released n k facts m old new no_grant release no_begin unchanged len same places protects left others hand_overs o =
+handed-released n k facts m mutex old new no_grant release no_begin unchanged len same places protects left others
+    hand_overs o =
     record {
       threads = ap (λ w. length w.open.items) same ∙ o.threads;
       mutexes = len ∙ o.mutexes;
       begun = ap (λ w. w.begun) same ∙ o.begun ∙ sym (begun-same m facts no_begin);
       waits = λ t. ap (λ w. queued_at w t) same ∙ o.waits t ∙ sym (queued-same m facts t no_begin unchanged);
       queue = queue-kept old.waiting new.waiting (ap (λ w. w.open) same) (ap (λ w. w.queue) same) places o.queue;
-      protects = λ mutex. protects mutex ∙ ap (λ b. not (m.fact.mutex == mutex) && b) (o.protects mutex)
-          ∙ sym (protects_by-one m facts mutex (m.fact.mutex == mutex) false (releases-own mutex) (no-grant mutex));
-      left = λ mutex h. elim (cases_eq mutex m.fact.mutex) [
+      protects = λ one. protects one ∙ ap (λ b. not (mutex == one) && b) (o.protects one)
+          ∙ sym (protects_by-one m facts one (mutex == one) false (release one) (no_grant one));
+      left = λ one h. elim (cases_eq one mutex) [
         | inl e ↦ subst (λ one. IsLeft (m ∷ facts) one (mutex_at new.mutexes.items one).left) (sym e)
             (released (subst (λ one. one < k) e h))
-        | inr ne ↦ still_left (no-grant mutex) (releases-own mutex ∙ ne_eqb m.fact.mutex mutex (λ e. ne (sym e)))
-            (subst (IsLeft facts mutex) (sym (others mutex (inside mutex h) ne)) (o.left mutex h))
+        | inr ne ↦ still_left (no_grant one) (release one ∙ ne_eqb mutex one (λ e. ne (sym e)))
+            (subst (IsLeft facts one) (sym (others one (inside one h) ne)) (o.left one h))
       ];
-      hand_overs = λ mutex h. by_other (no-grant mutex)
-          (subst (AreHandOvers facts mutex) (sym (hand_overs mutex (inside mutex h))) (o.hand_overs mutex h));
+      hand_overs = λ one h. by_other (no_grant one)
+          (subst (AreHandOvers facts one) (sym (hand_overs one (inside one h))) (o.hand_overs one h));
     }
   where
-    inside : (mutex : ℕ) → mutex < k → mutex < length old.mutexes.items
-    inside mutex h = subst (λ l. mutex < l) (sym o.mutexes) h
+    inside : (one : ℕ) → one < k → one < length old.mutexes.items
+    inside one h = subst (λ l. one < l) (sym o.mutexes) h
 
-    releases-own : (mutex : ℕ) → releases mutex m ≡ (m.fact.mutex == mutex)
-    releases-own mutex = by (m.fact.mutex == mutex) (is_release m.fact.what) release
+    released : mutex < k → IsLeft (m ∷ facts) mutex (mutex_at new.mutexes.items mutex).left
+    released h = left_by (release mutex ∙ eq-eqb mutex mutex refl)
+        (subst (Leaving (queued_by facts) (protects_by facts)) o.begun
+        (subst (λ waits. Leaving waits (protects_by facts) old.waiting.begun) (fun_ext o.waits)
+        (subst (λ protects. Leaving (queued_at old.waiting) protects old.waiting.begun) (fun_ext o.protects)
+        (left o.queue (inside mutex h)))))
       where
-        by : (a b : Bool) → b ≡ true → (a && b) ≡ a
-        by true b e = e
-        by false b e = refl
-
-    no-grant : (mutex : ℕ) → grants mutex m ≡ false
-    no-grant mutex = and_right _ _ no_grant
-
-    released : m.fact.mutex < k → IsLeft (m ∷ facts) m.fact.mutex (mutex_at new.mutexes.items m.fact.mutex).left
-    released h = left_by (releases-own m.fact.mutex ∙ eq-eqb m.fact.mutex m.fact.mutex refl)
-        (subst (λ begun. Leaves (before_release m.sources m.course m.fact (queued_by facts) (protects_by facts)) m.fact.mutex
-        m.fact.thread begun
-        (mutex_at new.mutexes.items m.fact.mutex).left) o.begun
-        (subst (λ waits. Leaves (before_release m.sources m.course m.fact waits (protects_by facts)) m.fact.mutex
-        m.fact.thread old.waiting.begun
-        (mutex_at new.mutexes.items m.fact.mutex).left) (fun_ext o.waits)
-        (subst (λ protects. Leaves (before_release m.sources m.course m.fact (queued_at old.waiting) protects) m.fact.mutex
-        m.fact.thread old.waiting.begun
-        (mutex_at new.mutexes.items m.fact.mutex).left) (fun_ext o.protects)
-        (left o.queue (inside m.fact.mutex h)))))
+        Leaving : levels.Waits → (ℕ → Bool) → ℕ → Type 0
+        Leaving waits protects begun = Leaves (before_release m.sources m.course (release_of m mutex) waits protects)
+            mutex m.fact.thread begun (mutex_at new.mutexes.items mutex).left
 
 -- ---- the early waits of a queue
 

@@ -28,23 +28,26 @@ waiting-more m facts t wait still w = record {
 waiting-own : (m : Moment) (before : List Moment) (t : ℕ) (what : What) → m.fact.what ≡ what → m.fact.thread ≡ t →
     ((wait : FoundWait) → wait_of before t ≡ Some wait → IsWaiting before t wait) →
     (wait : FoundWait) → after_own m what (wait_of before t) ≡ Some wait → IsWaiting (m ∷ before) t wait
-waiting-own m before t Waits is own rest wait h = record {
-  later = [];
-  beginning = m;
-  earlier = before;
-  these = refl;
-  begins = is;
-  thread = own;
-  still = All-nil (StaysStill t);
-  is = sym (same_Some (begun_wait m) wait h);
-}
-waiting-own m before t Granted is own rest wait h = absurd (none-some wait h)
-waiting-own m before t GaveUp is own rest wait h = absurd (none-some wait h)
-waiting-own m before t (Released next) is own rest wait h =
+waiting-own m before t (Waits mutex) is own rest wait h =
+    let begun = same_Some (begun_wait m mutex) wait h in
+    let for_it : mutex ≡ wait.mutex = ap (λ (w : FoundWait). w.mutex) begun in
+    record {
+      later = [];
+      beginning = m;
+      earlier = before;
+      these = refl;
+      begins = is ∙ ap (λ one. Waits one) for_it;
+      thread = own;
+      still = All-nil (StaysStill t);
+      is = sym begun ∙ ap (begun_wait m) for_it;
+    }
+waiting-own m before t (Granted mutex) is own rest wait h = absurd (none-some wait h)
+waiting-own m before t (GaveUp mutex) is own rest wait h = absurd (none-some wait h)
+waiting-own m before t (Released mutex next) is own rest wait h =
     waiting-more m before t wait (λ same. subst IsStill (sym is) tt) (rest wait h)
 waiting-own m before t (Level level) is own rest wait h =
     waiting-more m before t wait (λ same. subst IsStill (sym is) tt) (rest wait h)
-waiting-own m before t (Ceiling level) is own rest wait h =
+waiting-own m before t (Ceiling mutex level) is own rest wait h =
     waiting-more m before t wait (λ same. subst IsStill (sym is) tt) (rest wait h)
 
 pub waiting-from : (facts : List Moment) (t : ℕ) (wait : FoundWait) → wait_of facts t ≡ Some wait → IsWaiting facts t wait
@@ -57,20 +60,20 @@ waiting-from (m ∷ before) t wait h = elim (cases_eq m.fact.thread t) [
 ]
 
 still-same : (m : Moment) (what : What) (wait : Option FoundWait) → IsStill what → after_own m what wait ≡ wait
-still-same m Waits wait h = absurd h
-still-same m Granted wait h = absurd h
-still-same m GaveUp wait h = absurd h
-still-same m (Released next) wait h = refl
+still-same m (Waits mutex) wait h = absurd h
+still-same m (Granted mutex) wait h = absurd h
+still-same m (GaveUp mutex) wait h = absurd h
+still-same m (Released mutex next) wait h = refl
 still-same m (Level level) wait h = refl
-still-same m (Ceiling level) wait h = refl
+still-same m (Ceiling mutex level) wait h = refl
 
-wait_of-begun : (later : List Moment) (b : Moment) (earlier : List Moment) (t : ℕ) → b.fact.what ≡ Waits →
+wait_of-begun : (later : List Moment) (b : Moment) (earlier : List Moment) (t mutex : ℕ) → b.fact.what ≡ Waits mutex →
     b.fact.thread ≡ t →
-    All (StaysStill t) later → wait_of (later ++ b ∷ earlier) t ≡ Some (begun_wait b)
-wait_of-begun [] b earlier t begins own still = wait_of-own b earlier t own
+    All (StaysStill t) later → wait_of (later ++ b ∷ earlier) t ≡ Some (begun_wait b mutex)
+wait_of-begun [] b earlier t mutex begins own still = wait_of-own b earlier t own
     ∙ ap (λ what. after_own b what (wait_of earlier t)) begins
-wait_of-begun (m ∷ later) b earlier t begins own still =
-    let behind = wait_of-begun later b earlier t begins own (All-tail (StaysStill t) m later still) in
+wait_of-begun (m ∷ later) b earlier t mutex begins own still =
+    let behind = wait_of-begun later b earlier t mutex begins own (All-tail (StaysStill t) m later still) in
     elim (cases_eq m.fact.thread t) [
       | inl same ↦ wait_of-own m (later ++ b ∷ earlier) t same
           ∙ still-same m m.fact.what (wait_of (later ++ b ∷ earlier) t) (All-head (StaysStill t) m later still same) ∙ behind
@@ -79,7 +82,7 @@ wait_of-begun (m ∷ later) b earlier t begins own still =
 
 pub waiting-to : (facts : List Moment) (t : ℕ) (wait : FoundWait) → IsWaiting facts t wait → wait_of facts t ≡ Some wait
 waiting-to facts t wait w =
-    ap (λ l. wait_of l t) w.these ∙ wait_of-begun w.later w.beginning w.earlier t w.begins w.thread w.still
+    ap (λ l. wait_of l t) w.these ∙ wait_of-begun w.later w.beginning w.earlier t wait.mutex w.begins w.thread w.still
     ∙ ap (λ x. Some x) (sym w.is)
 
 -- ---- the waits that ended

@@ -29,12 +29,12 @@ owner_for-other course t = go (awaited_by course t)
 
 after_own-other : (m : Moment) (what : What) (wait : Option FoundWait) → IfSome wait HasOther →
     IfSome (after_own m what wait) HasOther
-after_own-other m Waits wait h = owner_for-other m.course m.fact.thread
-after_own-other m Granted wait h = tt
-after_own-other m GaveUp wait h = tt
-after_own-other m (Released next) wait h = h
+after_own-other m (Waits mutex) wait h = owner_for-other m.course m.fact.thread
+after_own-other m (Granted mutex) wait h = tt
+after_own-other m (GaveUp mutex) wait h = tt
+after_own-other m (Released mutex next) wait h = h
 after_own-other m (Level level) wait h = h
-after_own-other m (Ceiling level) wait h = h
+after_own-other m (Ceiling mutex level) wait h = h
 
 wait_of-other : (facts : List Moment) (t : ℕ) → IfSome (wait_of facts t) HasOther
 wait_of-other [] t = tt

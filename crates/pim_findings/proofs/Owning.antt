@@ -1,5 +1,5 @@
 -- What is known of ownerships after one more fact.
-use Rattle.std.proofs.Common.{◌≡◌, ℕ, ◌-◌, ◌<◌, ◌≤◌, ◌==◌, Bool, true, false, cond, ◌&&◌, List, [], ◌∷◌, length, Option, Some, None, option_map, unwrap_or, refl, sym, ap, ◌∙◌, subst, inl, inr, arith, eq-eqb}
+use Rattle.std.proofs.Common.{◌≡◌, ℕ, ◌-◌, ◌<◌, ◌≤◌, ◌==◌, Bool, true, false, cond, List, [], ◌∷◌, length, Option, Some, None, option_map, unwrap_or, refl, sym, ap, ◌∙◌, subst, inl, inr, arith, eq-eqb}
 use Rattle.std.specs.List.{find}
 use Rattle.std.specs.Option.{option_map_or}
 use Rattle.std.proofs.lemmas.Bool.{ne_eqb, cases_eq}
@@ -8,7 +8,7 @@ use Rattle.pim_findings.specs.declared.found_mutex.FoundMutex.{FoundMutex}
 use Rattle.pim_findings.specs.declared.found_mutex.FoundOwnership.{FoundOwnership}
 use Rattle.pim_findings.specs.declared.findings.Findings.{Findings}
 use Rattle.pim_findings.specs.Waits.{Moment}
-use Rattle.pim_findings.specs.Ownerships.{IsLongest, Owns, and_since, grants, is_grant, is_release, last_granted, mutex_at, ownerships_of, releases}
+use Rattle.pim_findings.specs.Ownerships.{IsLongest, Owns, and_since, grants, last_granted, mutex_at, ownerships_of, releases}
 
 -- ---- the longest of them
 
@@ -104,16 +104,6 @@ released-at old new found released mutex thread time one ownerships is more at h
 
 -- ---- one more fact
 
-both : (a b c : Bool) → a ≡ true → b ≡ c → (a && b) ≡ c
-both a b c e f = ap (λ a. a && b) e ∙ f
-
-not-first : (a b : Bool) → a ≡ false → (a && b) ≡ false
-not-first a b e = ap (λ a. a && b) e
-
-not-second : (a b : Bool) → b ≡ false → (a && b) ≡ false
-not-second true b e = e
-not-second false b e = refl
-
 pub last_granted-one : (m : Moment) (facts : List Moment) (mutex : ℕ) (is : Bool) → grants mutex m ≡ is →
     last_granted (m ∷ facts) mutex ≡ option_map (λ m. m.time) (cond is (Some m) (find (grants mutex) facts))
 last_granted-one m facts mutex is e = ap (λ b. option_map (λ m. m.time) (cond b (Some m) (find (grants mutex) facts))) e
@@ -127,87 +117,82 @@ ownerships_of-one m facts mutex is e =
     (ownerships_of facts mutex)) e
 
 -- a fact that releases a mutex
-pub owns-released : (k : ℕ) (facts : List Moment) (m : Moment) (old new : Findings) →
-    is_grant m.fact.what ≡ false → is_release m.fact.what ≡ true →
+pub owns-released : (k : ℕ) (facts : List Moment) (m : Moment) (mutex : ℕ) (old new : Findings) →
+    ((one : ℕ) → grants one m ≡ false) → ((one : ℕ) → releases one m ≡ (mutex == one)) →
     length new.mutexes.items ≡ length old.mutexes.items →
-    ((mutex : ℕ) → mutex < length old.mutexes.items → (mutex_at new.mutexes.items mutex).owned_since
-    ≡ (mutex_at old.mutexes.items mutex).owned_since) →
-    ((mutex : ℕ) (ownerships : List FoundOwnership) → mutex < length old.mutexes.items →
-    IsLongest ownerships (mutex_at old.mutexes.items mutex).longest →
-    IsLongest (cond (mutex == m.fact.mutex)
-    (and_since (mutex_at old.mutexes.items mutex).owned_since m.fact.thread m.time ownerships) ownerships)
-    (mutex_at new.mutexes.items mutex).longest) →
+    ((one : ℕ) → one < length old.mutexes.items → (mutex_at new.mutexes.items one).owned_since
+    ≡ (mutex_at old.mutexes.items one).owned_since) →
+    ((one : ℕ) (ownerships : List FoundOwnership) → one < length old.mutexes.items →
+    IsLongest ownerships (mutex_at old.mutexes.items one).longest →
+    IsLongest (cond (one == mutex)
+    (and_since (mutex_at old.mutexes.items one).owned_since m.fact.thread m.time ownerships) ownerships)
+    (mutex_at new.mutexes.items one).longest) →
     Owns k facts old → Owns k (m ∷ facts) new
-owns-released k facts m old new no_grant release len since longest o = record {
+owns-released k facts m mutex old new no_grant release len since longest o = record {
   mutexes = len ∙ o.mutexes;
-  since = λ mutex h.
-      let inside : mutex < length old.mutexes.items = omega (arith, o.mutexes) in
-      since mutex inside ∙ o.since mutex h
-      ∙ sym (last_granted-one m facts mutex false (not-second (m.fact.mutex == mutex) (is_grant m.fact.what) no_grant));
-  longest = λ mutex h.
-      let inside : mutex < length old.mutexes.items = omega (arith, o.mutexes) in
-      subst (λ l. IsLongest l (mutex_at new.mutexes.items mutex).longest) (these mutex h)
-      (longest mutex (ownerships_of facts mutex) inside (o.longest mutex h));
+  since = λ one h.
+      let inside : one < length old.mutexes.items = omega (arith, o.mutexes) in
+      since one inside ∙ o.since one h ∙ sym (last_granted-one m facts one false (no_grant one));
+  longest = λ one h.
+      let inside : one < length old.mutexes.items = omega (arith, o.mutexes) in
+      subst (λ l. IsLongest l (mutex_at new.mutexes.items one).longest) (these one h)
+      (longest one (ownerships_of facts one) inside (o.longest one h));
 }
   where
-    these : (mutex : ℕ) → mutex < k →
-        cond (mutex == m.fact.mutex) (and_since (mutex_at old.mutexes.items mutex).owned_since m.fact.thread m.time
-        (ownerships_of facts mutex)) (ownerships_of facts mutex)
-        ≡ ownerships_of (m ∷ facts) mutex
-    these mutex h = ap (λ since. cond (mutex == m.fact.mutex)
-        (and_since since m.fact.thread m.time (ownerships_of facts mutex)) (ownerships_of facts mutex)) (o.since mutex h)
-        ∙ elim (cases_eq mutex m.fact.mutex) [
-          | inl e ↦ ap (λ b. cond b (and_since (last_granted facts mutex) m.fact.thread m.time (ownerships_of facts mutex))
-              (ownerships_of facts mutex)) (eq-eqb mutex m.fact.mutex e)
-              ∙ sym (ownerships_of-one m facts mutex true
-              (both (m.fact.mutex == mutex) (is_release m.fact.what) true (eq-eqb m.fact.mutex mutex (sym e)) release))
-          | inr ne ↦ ap (λ b. cond b (and_since (last_granted facts mutex) m.fact.thread m.time (ownerships_of facts mutex))
-              (ownerships_of facts mutex)) (ne_eqb mutex m.fact.mutex ne)
-              ∙ sym (ownerships_of-one m facts mutex false
-              (not-first (m.fact.mutex == mutex) (is_release m.fact.what) (ne_eqb m.fact.mutex mutex (λ e. ne (sym e)))))
+    these : (one : ℕ) → one < k →
+        cond (one == mutex) (and_since (mutex_at old.mutexes.items one).owned_since m.fact.thread m.time
+        (ownerships_of facts one)) (ownerships_of facts one)
+        ≡ ownerships_of (m ∷ facts) one
+    these one h = ap (λ since. cond (one == mutex)
+        (and_since since m.fact.thread m.time (ownerships_of facts one)) (ownerships_of facts one)) (o.since one h)
+        ∙ elim (cases_eq one mutex) [
+          | inl e ↦ ap (λ b. cond b (and_since (last_granted facts one) m.fact.thread m.time (ownerships_of facts one))
+              (ownerships_of facts one)) (eq-eqb one mutex e)
+              ∙ sym (ownerships_of-one m facts one true (release one ∙ eq-eqb mutex one (sym e)))
+          | inr ne ↦ ap (λ b. cond b (and_since (last_granted facts one) m.fact.thread m.time (ownerships_of facts one))
+              (ownerships_of facts one)) (ne_eqb one mutex ne)
+              ∙ sym (ownerships_of-one m facts one false (release one ∙ ne_eqb mutex one (λ e. ne (sym e))))
         ]
 
 -- a fact that neither grants nor releases a mutex
-pub owns-still : (k : ℕ) (facts : List Moment) (m : Moment) (old new : Findings) → is_grant m.fact.what ≡ false →
-    is_release m.fact.what ≡ false →
+pub owns-still : (k : ℕ) (facts : List Moment) (m : Moment) (old new : Findings) →
+    ((one : ℕ) → grants one m ≡ false) → ((one : ℕ) → releases one m ≡ false) →
     new.mutexes ≡ old.mutexes → Owns k facts old → Owns k (m ∷ facts) new
 owns-still k facts m old new no_grant no_release mutexes o = record {
   mutexes = ap (λ v. length v.items) mutexes ∙ o.mutexes;
-  since = λ mutex h. ap (λ v. (mutex_at v.items mutex).owned_since) mutexes ∙ o.since mutex h
-      ∙ sym (last_granted-one m facts mutex false (not-second (m.fact.mutex == mutex) (is_grant m.fact.what) no_grant));
-  longest = λ mutex h. subst (λ v. IsLongest (ownerships_of (m ∷ facts) mutex) (mutex_at v.items mutex).longest)
+  since = λ one h. ap (λ v. (mutex_at v.items one).owned_since) mutexes ∙ o.since one h
+      ∙ sym (last_granted-one m facts one false (no_grant one));
+  longest = λ one h. subst (λ v. IsLongest (ownerships_of (m ∷ facts) one) (mutex_at v.items one).longest)
       (sym mutexes)
-      (subst (λ l. IsLongest l (mutex_at old.mutexes.items mutex).longest)
-      (sym (ownerships_of-one m facts mutex false (not-second (m.fact.mutex == mutex) (is_release m.fact.what) no_release)))
-      (o.longest mutex h));
+      (subst (λ l. IsLongest l (mutex_at old.mutexes.items one).longest)
+      (sym (ownerships_of-one m facts one false (no_release one)))
+      (o.longest one h));
 }
 
 -- a fact that grants a mutex
-pub owns-granted : (k : ℕ) (facts : List Moment) (m : Moment) (old mid new : Findings) → is_grant m.fact.what ≡ true →
-    is_release m.fact.what ≡ false →
+pub owns-granted : (k : ℕ) (facts : List Moment) (m : Moment) (mutex : ℕ) (old mid new : Findings) →
+    ((one : ℕ) → grants one m ≡ (mutex == one)) → ((one : ℕ) → releases one m ≡ false) →
     length mid.mutexes.items ≡ length old.mutexes.items →
-    ((mutex : ℕ) → mutex < length old.mutexes.items → (mutex_at mid.mutexes.items mutex).owned_since ≡
-    cond (mutex == m.fact.mutex) (Some m.time) (mutex_at old.mutexes.items mutex).owned_since) →
-    ((mutex : ℕ) → mutex < length old.mutexes.items → (mutex_at mid.mutexes.items mutex).longest
-    ≡ (mutex_at old.mutexes.items mutex).longest) →
+    ((one : ℕ) → one < length old.mutexes.items → (mutex_at mid.mutexes.items one).owned_since ≡
+    cond (one == mutex) (Some m.time) (mutex_at old.mutexes.items one).owned_since) →
+    ((one : ℕ) → one < length old.mutexes.items → (mutex_at mid.mutexes.items one).longest
+    ≡ (mutex_at old.mutexes.items one).longest) →
     new.mutexes ≡ mid.mutexes → Owns k facts old → Owns k (m ∷ facts) new
-owns-granted k facts m old mid new grant no_release len since longest mutexes o = record {
+owns-granted k facts m mutex old mid new grant no_release len since longest mutexes o = record {
   mutexes = ap (λ v. length v.items) mutexes ∙ len ∙ o.mutexes;
-  since = λ mutex h.
-      let inside : mutex < length old.mutexes.items = omega (arith, o.mutexes) in
-      ap (λ v. (mutex_at v.items mutex).owned_since) mutexes ∙ since mutex inside ∙ elim (cases_eq mutex m.fact.mutex) [
-        | inl e ↦ ap (λ b. cond b (Some m.time) (mutex_at old.mutexes.items mutex).owned_since) (eq-eqb mutex m.fact.mutex e)
-            ∙ sym (last_granted-one m facts mutex true
-            (both (m.fact.mutex == mutex) (is_grant m.fact.what) true (eq-eqb m.fact.mutex mutex (sym e)) grant))
-        | inr ne ↦ ap (λ b. cond b (Some m.time) (mutex_at old.mutexes.items mutex).owned_since)
-            (ne_eqb mutex m.fact.mutex ne) ∙ o.since mutex h
-            ∙ sym (last_granted-one m facts mutex false
-            (not-first (m.fact.mutex == mutex) (is_grant m.fact.what) (ne_eqb m.fact.mutex mutex (λ e. ne (sym e)))))
+  since = λ one h.
+      let inside : one < length old.mutexes.items = omega (arith, o.mutexes) in
+      ap (λ v. (mutex_at v.items one).owned_since) mutexes ∙ since one inside ∙ elim (cases_eq one mutex) [
+        | inl e ↦ ap (λ b. cond b (Some m.time) (mutex_at old.mutexes.items one).owned_since) (eq-eqb one mutex e)
+            ∙ sym (last_granted-one m facts one true (grant one ∙ eq-eqb mutex one (sym e)))
+        | inr ne ↦ ap (λ b. cond b (Some m.time) (mutex_at old.mutexes.items one).owned_since)
+            (ne_eqb one mutex ne) ∙ o.since one h
+            ∙ sym (last_granted-one m facts one false (grant one ∙ ne_eqb mutex one (λ e. ne (sym e))))
       ];
-  longest = λ mutex h.
-      let inside : mutex < length old.mutexes.items = omega (arith, o.mutexes) in
-      subst (λ v. IsLongest (ownerships_of (m ∷ facts) mutex) (mutex_at v.items mutex).longest) (sym mutexes)
-      (subst (λ l. IsLongest l (mutex_at mid.mutexes.items mutex).longest)
-      (sym (ownerships_of-one m facts mutex false (not-second (m.fact.mutex == mutex) (is_release m.fact.what) no_release)))
-      (subst (IsLongest (ownerships_of facts mutex)) (sym (longest mutex inside)) (o.longest mutex h)));
+  longest = λ one h.
+      let inside : one < length old.mutexes.items = omega (arith, o.mutexes) in
+      subst (λ v. IsLongest (ownerships_of (m ∷ facts) one) (mutex_at v.items one).longest) (sym mutexes)
+      (subst (λ l. IsLongest l (mutex_at mid.mutexes.items one).longest)
+      (sym (ownerships_of-one m facts one false (no_release one)))
+      (subst (IsLongest (ownerships_of facts one)) (sym (longest one inside)) (o.longest one h)));
 }

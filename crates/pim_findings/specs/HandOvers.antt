@@ -18,12 +18,12 @@ use Rattle.pim_findings.specs.Queue.{KeepsQueue, protects_at, queued_at}
 
 -- whether what happened begins a wait
 abbrev pub begins_wait : What → Bool
-begins_wait Waits = true
-begins_wait Granted = false
-begins_wait GaveUp = false
-begins_wait (Released next) = false
+begins_wait (Waits mutex) = true
+begins_wait (Granted mutex) = false
+begins_wait (GaveUp mutex) = false
+begins_wait (Released mutex next) = false
 begins_wait (Level level) = false
-begins_wait (Ceiling level) = false
+begins_wait (Ceiling mutex level) = false
 
 -- how many waits these facts begin
 abbrev pub begun_by : List Moment → ℕ
@@ -48,9 +48,11 @@ protects_by [] mutex = false
 protects_by (m ∷ before) mutex =
     not (releases mutex m) && ((grants mutex m && is_protect (family_in m.sources mutex)) || protects_by before mutex)
 
--- what a release found after these facts
-abbrev pub before_by : List Moment → Moment → Before
-before_by facts m = before_release m.sources m.course m.fact (queued_by facts) (protects_by facts)
+-- what a release of a mutex found after these facts
+abbrev pub before_by : List Moment → Moment → ℕ → Before
+before_by facts m mutex =
+    before_release m.sources m.course (record { thread = m.fact.thread; mutex = mutex }) (queued_by facts)
+    (protects_by facts)
 
 -- the release leaves threads that wait: this is the number of the first one's wait
 abbrev pub Leaves : Before → ℕ → ℕ → ℕ → Option Left → Type 0
@@ -63,7 +65,7 @@ pub data IsLeft : List Moment → ℕ → Option Left → Type 0 where
   never : {mutex : ℕ} → IsLeft [] mutex None
   taken : {mutex : ℕ} {m : Moment} {facts : List Moment} → grants mutex m ≡ true → IsLeft (m ∷ facts) mutex None
   left_by : {mutex : ℕ} {m : Moment} {facts : List Moment} {left : Option Left} → releases mutex m ≡ true →
-      Leaves (before_by facts m) mutex m.fact.thread (begun_by facts) left → IsLeft (m ∷ facts) mutex left
+      Leaves (before_by facts m mutex) mutex m.fact.thread (begun_by facts) left → IsLeft (m ∷ facts) mutex left
   still_left : {mutex : ℕ} {m : Moment} {facts : List Moment} {left : Option Left} → grants mutex m ≡ false →
       releases mutex m ≡ false →
       IsLeft facts mutex left → IsLeft (m ∷ facts) mutex left

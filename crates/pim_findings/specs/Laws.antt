@@ -10,12 +10,12 @@ use Rattle.pim_findings.specs.Ownerships.{IsLongest, grants, last_granted, owner
 
 -- what happened neither begins a wait of its thread nor ends one
 abbrev pub IsStill : What → Type 0
-IsStill Waits = ⊥
-IsStill Granted = ⊥
-IsStill GaveUp = ⊥
-IsStill (Released next) = Unit {0}
+IsStill (Waits mutex) = ⊥
+IsStill (Granted mutex) = ⊥
+IsStill (GaveUp mutex) = ⊥
+IsStill (Released mutex next) = Unit {0}
 IsStill (Level level) = Unit {0}
-IsStill (Ceiling level) = Unit {0}
+IsStill (Ceiling mutex level) = Unit {0}
 
 -- if it happened to this thread
 abbrev pub StaysStill : ℕ → Moment → Type 0
@@ -27,10 +27,10 @@ pub record IsWaiting (facts : List Moment) (t : ℕ) (wait : FoundWait) : Type 0
   pub beginning : Moment
   pub earlier : List Moment
   pub these : facts ≡ later ++ beginning ∷ earlier
-  pub begins : beginning.fact.what ≡ What.Waits
+  pub begins : beginning.fact.what ≡ What.Waits wait.mutex
   pub thread : beginning.fact.thread ≡ t
   pub still : All (StaysStill t) later
-  pub is : wait ≡ begun_wait beginning
+  pub is : wait ≡ begun_wait beginning wait.mutex
 
 -- a thread waited: one of these facts ended the wait, which lasted before that
 pub record HasWaited (facts : List Moment) (wait : FoundWait) : Type 0 where

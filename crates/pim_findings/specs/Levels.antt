@@ -1,7 +1,6 @@
 -- What levels threads get from others, and which of them is the first that waits for a mutex.
 use Rattle.std.specs.Prelude.{◌≡◌, ℕ, ◌<◌, ◌≤◌, Bool, true, false, Option, Some, None, if◌then◌else◌, IsTrue, MatchOption}
 use Rattle.std.specs.Option.{option_and_then, option_map, option_map_or}
-use Rattle.pim_facts.specs.declared.fact.Fact.{Fact}
 use Rattle.pim_facts.specs.declared.family.Family.{Family}
 use Rattle.pim_facts.specs.declared.family.Family.TheVariants as family
 use Rattle.pim_course.specs.Courses.{family_in}
@@ -9,6 +8,7 @@ use Rattle.pim_course.specs.World.{World, but_for, world_of}
 use Rattle.pim_course.specs.declared.course.Course.{Course}
 use Rattle.pim_course.specs.declared.course.Sources.{Sources}
 use Rattle.pim_findings.specs.declared.waiting.Queued.{Queued}
+use Rattle.pim_findings.specs.declared.waiting.Release.{Release}
 
 -- who owns and awaits what; which mutexes raise their owner to their ceiling, and which to the levels of those that wait;
 -- and the number of each thread's wait: the lower, the earlier it began
@@ -84,10 +84,10 @@ abbrev pub number_by : Waits → ℕ → ℕ
 number_by waits t = option_map_or (λ wait. wait.number) (waits t) 0
 
 -- what a release found: its thread still owns the mutex
-abbrev pub before_release : Sources → Course → Fact → Waits → (ℕ → Bool) → Before
-before_release sources course fact waits protects = record {
+abbrev pub before_release : Sources → Course → Release → Waits → (ℕ → Bool) → Before
+before_release sources course release waits protects = record {
   world = record (world_of course) {
-    owner = but_for fact.mutex (Some fact.thread) (world_of course).owner;
+    owner = but_for release.mutex (Some release.thread) (world_of course).owner;
     awaits = awaits_by waits;
   };
   protects = protects;

@@ -1,5 +1,5 @@
 -- How long threads owned mutexes, and which ownership of each was the longest.
-use Rattle.std.specs.Prelude.{◌≡◌, ℕ, ◌-◌, ◌<◌, ◌≤◌, ◌==◌, ◌&&◌, Bool, true, false, List, [], ◌∷◌, ◌++◌, length, slice_index_or, if◌then◌else◌, Option, Some, None, All}
+use Rattle.std.specs.Prelude.{◌≡◌, ℕ, ◌-◌, ◌<◌, ◌≤◌, ◌==◌, Bool, false, List, [], ◌∷◌, ◌++◌, length, slice_index_or, if◌then◌else◌, Option, Some, None, All}
 use Rattle.std.specs.List.{find}
 use Rattle.std.specs.Option.{option_map}
 use Rattle.pim_facts.specs.declared.fact.What.{What}
@@ -10,31 +10,31 @@ use Rattle.pim_findings.specs.declared.found_mutex.TheConstants.FoundMutex.{UNSE
 use Rattle.pim_findings.specs.declared.findings.Findings.{Findings}
 use Rattle.pim_findings.specs.Waits.{Moment}
 
--- whether what happened grants the mutex
-abbrev pub is_grant : What → Bool
-is_grant Granted = true
-is_grant Waits = false
-is_grant GaveUp = false
-is_grant (Released next) = false
-is_grant (Level level) = false
-is_grant (Ceiling level) = false
+-- whether what happened grants this mutex
+abbrev pub is_grant : ℕ → What → Bool
+is_grant mutex (Granted granted) = granted == mutex
+is_grant mutex (Waits other) = false
+is_grant mutex (GaveUp other) = false
+is_grant mutex (Released other next) = false
+is_grant mutex (Level level) = false
+is_grant mutex (Ceiling other level) = false
 
--- whether what happened releases the mutex
-abbrev pub is_release : What → Bool
-is_release Granted = false
-is_release Waits = false
-is_release GaveUp = false
-is_release (Released next) = true
-is_release (Level level) = false
-is_release (Ceiling level) = false
+-- whether what happened releases this mutex
+abbrev pub is_release : ℕ → What → Bool
+is_release mutex (Granted other) = false
+is_release mutex (Waits other) = false
+is_release mutex (GaveUp other) = false
+is_release mutex (Released released next) = released == mutex
+is_release mutex (Level level) = false
+is_release mutex (Ceiling other level) = false
 
 -- whether a fact grants this mutex
 abbrev pub grants : ℕ → Moment → Bool
-grants mutex m = (m.fact.mutex == mutex) && is_grant m.fact.what
+grants mutex m = is_grant mutex m.fact.what
 
 -- whether a fact releases this mutex
 abbrev pub releases : ℕ → Moment → Bool
-releases mutex m = (m.fact.mutex == mutex) && is_release m.fact.what
+releases mutex m = is_release mutex m.fact.what
 
 -- the time of the last of these facts that grants a mutex; None if none does
 abbrev pub last_granted : List Moment → ℕ → Option ℕ

@@ -4,8 +4,8 @@ use Rattle.std.specs.List.{list_any}
 use Rattle.std.specs.Option.{option_map}
 use Rattle.pim_findings.specs.declared.waiting.Open.{Open}
 use Rattle.pim_findings.specs.declared.waiting.Queued.{Queued}
+use Rattle.pim_findings.specs.declared.waiting.Release.{Release}
 use Rattle.pim_findings.specs.declared.waiting.Waiting.{Waiting}
-use Rattle.pim_facts.specs.declared.fact.Fact.{Fact}
 use Rattle.pim_course.specs.declared.course.Course.{Course}
 use Rattle.pim_course.specs.declared.course.Sources.{Sources}
 use Rattle.pim_findings.specs.Levels.{Before, Gets, Waits, before_release, heir_by}
@@ -28,8 +28,8 @@ abbrev pub protects_at : Waiting → ℕ → Bool
 protects_at waiting mutex = list_any (λ other. other == mutex) waiting.protecting.items
 
 -- what a release finds
-abbrev pub before_at : Sources → Course → Fact → Waiting → Before
-before_at sources course fact waiting = before_release sources course fact (queued_at waiting) (protects_at waiting)
+abbrev pub before_at : Sources → Course → Release → Waiting → Before
+before_at sources course release waiting = before_release sources course release (queued_at waiting) (protects_at waiting)
 
 -- the level that is computed of a thread
 abbrev pub level_at : Waiting → ℕ → ℕ

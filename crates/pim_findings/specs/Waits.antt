@@ -53,21 +53,22 @@ is_none_mutex family.None = true
 is_none_mutex family.Inherit = false
 is_none_mutex family.Protect = false
 
--- the wait that a fact begins, as if the log ended then: it isn't bounded at a NONE mutex whose owner has a lower level
-abbrev pub begun_wait : Moment → FoundWait
-begun_wait m =
+-- the wait for a mutex that a fact begins, as if the log ended then: it isn't bounded at a NONE mutex whose owner has a
+-- lower level
+abbrev pub begun_wait : Moment → ℕ → FoundWait
+begun_wait m mutex =
     let level = level_in m.course m.fact.thread in
     let owner = owner_for m.course m.fact.thread in
     record {
       thread = m.fact.thread;
       level = level;
       at = place_in m.course m.fact.thread;
-      mutex = m.fact.mutex;
+      mutex = mutex;
       owner = owner;
       began = m.time;
       lasted = 0;
       is_open = true;
-      is_unbounded = is_none_mutex (family_in m.sources m.fact.mutex) && nat_lt (level_of_owner owner) level;
+      is_unbounded = is_none_mutex (family_in m.sources mutex) && nat_lt (level_of_owner owner) level;
     }
 
 -- the wait if it lasts until this time, and whether that is the end of the log
@@ -76,12 +77,12 @@ lasting_until wait time is_open = record wait { lasted = time - wait.began; is_o
 
 -- what a thread waits for after a fact of its own, if it waited for this before
 abbrev pub after_own : Moment → What → Option FoundWait → Option FoundWait
-after_own m Waits wait = Some (begun_wait m)
-after_own m Granted wait = None
-after_own m GaveUp wait = None
-after_own m (Released next) wait = wait
+after_own m (Waits mutex) wait = Some (begun_wait m mutex)
+after_own m (Granted mutex) wait = None
+after_own m (GaveUp mutex) wait = None
+after_own m (Released mutex next) wait = wait
 after_own m (Level level) wait = wait
-after_own m (Ceiling level) wait = wait
+after_own m (Ceiling mutex level) wait = wait
 
 -- the wait of a thread that lasts after these facts
 abbrev pub wait_of : List Moment → ℕ → Option FoundWait
@@ -90,12 +91,12 @@ wait_of (m ∷ before) t = if m.fact.thread == t then after_own m m.fact.what (w
 
 -- whether what happened ends a wait of its thread
 abbrev pub ends_wait : What → Bool
-ends_wait Waits = false
-ends_wait Granted = true
-ends_wait GaveUp = true
-ends_wait (Released next) = false
+ends_wait (Waits mutex) = false
+ends_wait (Granted mutex) = true
+ends_wait (GaveUp mutex) = true
+ends_wait (Released mutex next) = false
 ends_wait (Level level) = false
-ends_wait (Ceiling level) = false
+ends_wait (Ceiling mutex level) = false
 
 -- one wait more, if there is one, which lasted until this time
 abbrev pub and_until : ℕ → Bool → Option FoundWait → List FoundWait → List FoundWait

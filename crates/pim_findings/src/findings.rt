@@ -24,7 +24,7 @@ use crate::deadlocks::deadlocks_of;
 use crate::found_mutex::{FoundMutex, FoundOwnership, Left};
 use crate::found_wait::FoundWait;
 use crate::found_waits::FoundWaits;
-use crate::waiting::Waiting;
+use crate::waiting::{Release, Waiting};
 use pim_blocking::{Blocking, Bound};
 use pim_course::{Course, Sources, family_of};
 use pim_facts::{Fact, Family, What};
@@ -159,20 +159,24 @@ impl Findings {
             } ∷ facts) self.new) }
     {
         match fact.what {
-            What::Waits => self
+            What::Waits(mutex) => self
                 .waiting
-                .begin(FoundWait::begun(sources, course, fact, time)),
-            What::GaveUp => self.end_wait(fact.thread as usize, time, false),
-            What::Granted => {
-                self.own(sources, fact, time)?;
+                .begin(FoundWait::begun(sources, course, fact, mutex, time)),
+            What::GaveUp(_) => self.end_wait(fact.thread as usize, time, false),
+            What::Granted(mutex) => {
+                self.own(sources, fact.thread, mutex, time)?;
                 self.end_wait(fact.thread as usize, time, false)
             }
-            What::Released(_) => {
-                self.release(sources, course, fact, time);
+            What::Released { mutex, .. } => {
+                let release = Release {
+                    thread: fact.thread,
+                    mutex,
+                };
+                self.release(sources, course, &release, time);
                 Ok(())
             }
             What::Level(_) => Ok(()),
-            What::Ceiling(_) => Ok(()),
+            What::Ceiling { .. } => Ok(()),
         }
     }
 
@@ -198,57 +202,62 @@ impl Findings {
     }
 
     /// A thread has a mutex from now on.
-    fn own(&mut self, sources: &Sources, fact: &Fact, time: u64) -> Result<(), AllocError>
+    fn own(
+        &mut self,
+        sources: &Sources,
+        thread: u32,
+        mutex: u32,
+        time: u64,
+    ) -> Result<(), AllocError>
         ensures orders { self.new.orders ≡ self.old.orders }
         ensures sections { self.new.blocking ≡ self.old.blocking }
         ensures waits { KeepsWaits self.old self.new }
         ensures len { length self.new.mutexes.items ≡ length self.old.mutexes.items }
-        ensures since { (mutex : ℕ) → mutex < length self.old.mutexes.items →
-            (mutex_at self.new.mutexes.items mutex).owned_since ≡
-            (if mutex == fact.now.mutex then Some time else (mutex_at self.old.mutexes.items mutex).owned_since) }
-        ensures longest { (mutex : ℕ) → mutex < length self.old.mutexes.items →
-            (mutex_at self.new.mutexes.items mutex).longest ≡ (mutex_at self.old.mutexes.items mutex).longest }
+        ensures since { (one : ℕ) → one < length self.old.mutexes.items →
+            (mutex_at self.new.mutexes.items one).owned_since ≡
+            (if one == mutex then Some time else (mutex_at self.old.mutexes.items one).owned_since) }
+        ensures longest { (one : ℕ) → one < length self.old.mutexes.items →
+            (mutex_at self.new.mutexes.items one).longest ≡ (mutex_at self.old.mutexes.items one).longest }
         ensures waiting { self.new.waiting ≡ record self.old.waiting { protecting = self.new.waiting.protecting } }
-        ensures protects { IfOk result (λ _. (mutex : ℕ) → protects_at self.new.waiting mutex ≡
-            (protects_at self.old.waiting mutex ||
-            ((fact.now.mutex == mutex) && is_protect (family_in sources.now fact.now.mutex)))) }
-        ensures left { (mutex : ℕ) → mutex < length self.old.mutexes.items →
-            (mutex_at self.new.mutexes.items mutex).left ≡
-            (if mutex == fact.now.mutex then None else (mutex_at self.old.mutexes.items mutex).left) }
-        ensures hand_overs { KeepsQueue self.old.waiting → fact.now.mutex < length self.old.mutexes.items →
-            let before = mutex_at self.old.mutexes.items fact.now.mutex in
-            HandsOn (queued_at self.old.waiting) fact.now.thread fact.now.mutex before.left before.hand_overs
-            (mutex_at self.new.mutexes.items fact.now.mutex).hand_overs }
-        ensures others { (mutex : ℕ) → mutex < length self.old.mutexes.items → mutex ≢ fact.now.mutex →
-            (mutex_at self.new.mutexes.items mutex).hand_overs ≡ (mutex_at self.old.mutexes.items mutex).hand_overs }
+        ensures protects { IfOk result (λ _. (one : ℕ) → protects_at self.new.waiting one ≡
+            (protects_at self.old.waiting one || ((mutex == one) && is_protect (family_in sources.now mutex)))) }
+        ensures left { (one : ℕ) → one < length self.old.mutexes.items →
+            (mutex_at self.new.mutexes.items one).left ≡
+            (if one == mutex then None else (mutex_at self.old.mutexes.items one).left) }
+        ensures hand_overs { KeepsQueue self.old.waiting → mutex < length self.old.mutexes.items →
+            let before = mutex_at self.old.mutexes.items mutex in
+            HandsOn (queued_at self.old.waiting) thread mutex before.left before.hand_overs
+            (mutex_at self.new.mutexes.items mutex).hand_overs }
+        ensures others { (one : ℕ) → one < length self.old.mutexes.items → one ≢ mutex →
+            (mutex_at self.new.mutexes.items one).hand_overs ≡ (mutex_at self.old.mutexes.items one).hand_overs }
     {
-        let mut found = self.mutex(fact.mutex);
-        self.hand_on(&mut found, fact);
+        let mut found = self.mutex(mutex);
+        self.hand_on(&mut found, thread, mutex);
         found.own(time);
-        put(&mut self.mutexes, fact.mutex, found);
-        if family_of(sources, fact.mutex) == Family::Protect {
-            self.waiting.protect(fact.mutex)?;
+        put(&mut self.mutexes, mutex, found);
+        if family_of(sources, mutex) == Family::Protect {
+            self.waiting.protect(mutex)?;
         }
         Ok(())
     }
 
     /// A thread is granted a mutex: that is a hand-over if a thread waits that did so as the mutex was released.
-    fn hand_on(&self, found: &mut FoundMutex, fact: &Fact)
+    fn hand_on(&self, found: &mut FoundMutex, thread: u32, mutex: u32)
         ensures since { found.new.owned_since ≡ found.old.owned_since }
         ensures longest { found.new.longest ≡ found.old.longest }
-        ensures hand_overs { KeepsQueue self.now.waiting → HandsOn (queued_at self.now.waiting) fact.now.thread fact.now.mutex
+        ensures hand_overs { KeepsQueue self.now.waiting → HandsOn (queued_at self.now.waiting) thread mutex
             found.old.left found.old.hand_overs found.new.hand_overs }
     {
         if let Some(left) = found.left() {
-            if self.waiting.has_early(fact.mutex, left.begun) {
-                let number = self.waiting.number(fact.thread, fact.mutex);
-                found.hand_over(&left, fact.thread, number);
+            if self.waiting.has_early(mutex, left.begun) {
+                let number = self.waiting.number(thread, mutex);
+                found.hand_over(&left, thread, number);
             }
         }
     }
 
     /// The owner of a mutex has it no more. Keeps who waits for it then, and who is first.
-    fn release(&mut self, sources: &Sources, course: &Course, fact: &Fact, time: u64)
+    fn release(&mut self, sources: &Sources, course: &Course, release: &Release, time: u64)
         ensures orders { self.new.orders ≡ self.old.orders }
         ensures sections { self.new.blocking ≡ self.old.blocking }
         ensures waits { KeepsWaits self.old self.new }
@@ -257,7 +266,8 @@ impl Findings {
             (mutex_at self.new.mutexes.items mutex).owned_since ≡ (mutex_at self.old.mutexes.items mutex).owned_since }
         ensures longest { (mutex : ℕ) (ownerships : List FoundOwnership) → mutex < length self.old.mutexes.items →
             let before = mutex_at self.old.mutexes.items mutex in IsLongest ownerships before.longest →
-            IsLongest (if mutex == fact.now.mutex then and_since before.owned_since fact.now.thread time ownerships else ownerships)
+            IsLongest (if mutex == release.now.mutex
+            then and_since before.owned_since release.now.thread time ownerships else ownerships)
             (mutex_at self.new.mutexes.items mutex).longest }
         ensures waiting { self.new.waiting ≡ record self.old.waiting {
           protecting = self.new.waiting.protecting;
@@ -265,28 +275,28 @@ impl Findings {
         } }
         ensures places { length self.new.waiting.effective.items ≡ length self.old.waiting.effective.items }
         ensures protects { (mutex : ℕ) → protects_at self.new.waiting mutex ≡
-            (not (fact.now.mutex == mutex) && protects_at self.old.waiting mutex) }
-        ensures left { KeepsQueue self.old.waiting → fact.now.mutex < length self.old.mutexes.items →
-            let before = before_at sources.now course.now fact.now self.old.waiting in
-            Leaves before fact.now.mutex fact.now.thread self.old.waiting.begun
-            (mutex_at self.new.mutexes.items fact.now.mutex).left }
-        ensures others { (mutex : ℕ) → mutex < length self.old.mutexes.items → mutex ≢ fact.now.mutex →
+            (not (release.now.mutex == mutex) && protects_at self.old.waiting mutex) }
+        ensures left { KeepsQueue self.old.waiting → release.now.mutex < length self.old.mutexes.items →
+            let before = before_at sources.now course.now release.now self.old.waiting in
+            Leaves before release.now.mutex release.now.thread self.old.waiting.begun
+            (mutex_at self.new.mutexes.items release.now.mutex).left }
+        ensures others { (mutex : ℕ) → mutex < length self.old.mutexes.items → mutex ≢ release.now.mutex →
             (mutex_at self.new.mutexes.items mutex).left ≡ (mutex_at self.old.mutexes.items mutex).left }
         ensures hand_overs { (mutex : ℕ) → mutex < length self.old.mutexes.items →
             (mutex_at self.new.mutexes.items mutex).hand_overs ≡ (mutex_at self.old.mutexes.items mutex).hand_overs }
     {
-        let mut found = self.mutex(fact.mutex);
-        let left = match self.waiting.first(sources, course, fact) {
+        let mut found = self.mutex(release.mutex);
+        let left = match self.waiting.first(sources, course, release) {
             Some(first) => Some(Left {
-                thread: fact.thread,
+                thread: release.thread,
                 begun: self.waiting.begun(),
                 first,
             }),
             None => None,
         };
-        found.release(fact.thread, time, left);
-        put(&mut self.mutexes, fact.mutex, found);
-        self.waiting.leave(fact.mutex);
+        found.release(release.thread, time, left);
+        put(&mut self.mutexes, release.mutex, found);
+        self.waiting.leave(release.mutex);
     }
 
     /// Ends the waits that last at the end of the log, which has this time, and finds the deadlocks,

@@ -39,23 +39,29 @@ pub struct FoundWait {
 }
 
 impl FoundWait {
-    /// Returns the wait that a fact of this time begins, as if the log ended then.
-    pub(crate) fn begun(sources: &Sources, course: &Course, fact: &Fact, time: u64) -> FoundWait
+    /// Returns the wait for a mutex that a fact of this time begins, as if the log ended then.
+    pub(crate) fn begun(
+        sources: &Sources,
+        course: &Course,
+        fact: &Fact,
+        mutex: u32,
+        time: u64,
+    ) -> FoundWait
         ensures { result ≡ begun_wait (record {
           fact = fact.now;
           time = time;
           course = course.now;
           sources = sources.now;
-        }) }
+        }) mutex }
     {
         let level = level_of(course, fact.thread);
         let owner = awaited_owner(course, fact.thread);
-        let is_none = family_of(sources, fact.mutex) == Family::None;
+        let is_none = family_of(sources, mutex) == Family::None;
         FoundWait {
             thread: fact.thread,
             level,
             at: place_of(course, fact.thread),
-            mutex: fact.mutex,
+            mutex,
             owner,
             began: time,
             lasted: 0,

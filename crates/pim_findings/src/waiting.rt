@@ -12,7 +12,7 @@ ghost use Rattle.pim_findings.specs.Queue.{AreEffective, AreSound, HasHighest, I
 use crate::found_wait::FoundWait;
 use pim_course::lists::push;
 use pim_course::{Course, Sources, family_of};
-use pim_facts::{Fact, Family};
+use pim_facts::Family;
 use std::alloc::{AllocError, Global};
 
 /// A wait that lasts.
@@ -30,6 +30,13 @@ struct Queued {
     number: u64,
     thread: u32,
     mutex: u32,
+}
+
+/// A thread releases a mutex.
+#[derive(Clone, Copy, PartialEq, Eq)]
+pub(crate) struct Release {
+    pub thread: u32,
+    pub mutex: u32,
 }
 
 /// The waits that last.
@@ -181,19 +188,19 @@ impl Waiting {
             .any(|wait| wait.mutex == mutex && wait.number <= begun)
     }
 
-    /// Returns the number of the first wait for the mutex that the fact's thread releases: that of
-    /// the thread with the highest effective level, and of equal ones the earliest.
-    pub fn first(&mut self, sources: &Sources, course: &Course, fact: &Fact) -> Option<u64>
+    /// Returns the number of the first wait for a mutex that a thread releases: that of the thread
+    /// with the highest effective level, and of equal ones the earliest.
+    pub fn first(&mut self, sources: &Sources, course: &Course, release: &Release) -> Option<u64>
         ensures rest { self.new ≡ record self.old { effective = self.new.effective } }
         ensures len { length self.new.effective.items ≡ length self.old.effective.items }
         ensures first { KeepsQueue self.old →
-            IsFirstNumber (before_at sources.now course.now fact.now self.old) fact.now.mutex result }
+            IsFirstNumber (before_at sources.now course.now release.now self.old) release.now.mutex result }
     {
-        let any = self.any_of(fact.mutex)?;
+        let any = self.any_of(release.mutex)?;
         if self.is_alone(&any) {
             return Some(any.number);
         }
-        self.find_levels(sources, course, fact);
+        self.find_levels(sources, course, release);
         Some(self.highest(&any))
     }
 
@@ -235,23 +242,24 @@ impl Waiting {
         level > lower || (level == lower && wait.number < other.number)
     }
 
-    /// Computes the effective level of each thread that waits, before the fact's thread releases its mutex: the highest
-    /// of its own level, the ceilings of its PROTECT mutexes, and the effective levels of those that wait for its INHERIT
-    /// mutexes. Each level and each ceiling raises the levels along a chain, up to one that isn't lower.
-    fn find_levels(&mut self, sources: &Sources, course: &Course, fact: &Fact)
+    /// Computes the effective level of each thread that waits, before a thread releases a mutex: the highest of its own
+    /// level, the ceilings of its PROTECT mutexes, and the effective levels of those that wait for its INHERIT mutexes.
+    /// Each level and each ceiling raises the levels along a chain, up to one that isn't lower.
+    fn find_levels(&mut self, sources: &Sources, course: &Course, release: &Release)
         ensures rest { self.new ≡ record self.old { effective = self.new.effective } }
         ensures len { length self.new.effective.items ≡ length self.old.effective.items }
-        ensures levels { KeepsQueue self.old → AreEffective (before_at sources.now course.now fact.now self.old) self.new }
+        ensures levels { KeepsQueue self.old →
+            AreEffective (before_at sources.now course.now release.now self.old) self.new }
     {
         self.forget_levels();
         for place in 0..self.queue.len() {
             let thread = self.queue[place].thread;
             let level = course.thread(thread).level;
-            self.raise_from(sources, course, fact, thread, level);
+            self.raise_from(sources, course, release, thread, level);
         }
         for protected in 0..self.protecting.len() {
             let mutex = self.protecting[protected];
-            self.raise_owner(sources, course, fact, mutex);
+            self.raise_owner(sources, course, release, mutex);
         }
     }
 
@@ -268,10 +276,17 @@ impl Waiting {
     }
 
     /// Raises the effective level of a thread, and of those along its chain, to this one.
-    fn raise_from(&mut self, sources: &Sources, course: &Course, fact: &Fact, first: u32, level: u8)
+    fn raise_from(
+        &mut self,
+        sources: &Sources,
+        course: &Course,
+        release: &Release,
+        first: u32,
+        level: u8,
+    )
         ensures rest { self.new ≡ record self.old { effective = self.new.effective } }
         ensures len { length self.new.effective.items ≡ length self.old.effective.items }
-        ensures levels { KeepsQueue self.old → let before = before_at sources.now course.now fact.now self.old in
+        ensures levels { KeepsQueue self.old → let before = before_at sources.now course.now release.now self.old in
             Gets before first level → AreSound before self.old → IsRaised before self.old self.new first level }
     {
         let mut thread = first;
@@ -279,7 +294,7 @@ impl Waiting {
             if !self.raise(thread, level) {
                 return;
             }
-            match self.heir_of(sources, course, fact, thread) {
+            match self.heir_of(sources, course, release, thread) {
                 Some(heir) => thread = heir,
                 None => return,
             }
@@ -287,17 +302,17 @@ impl Waiting {
     }
 
     /// Raises the effective level of the owner of a PROTECT mutex, and of those along its chain, to the ceiling.
-    fn raise_owner(&mut self, sources: &Sources, course: &Course, fact: &Fact, mutex: u32)
+    fn raise_owner(&mut self, sources: &Sources, course: &Course, release: &Release, mutex: u32)
         ensures rest { self.new ≡ record self.old { effective = self.new.effective } }
         ensures len { length self.new.effective.items ≡ length self.old.effective.items }
-        ensures levels { KeepsQueue self.old → let before = before_at sources.now course.now fact.now self.old in
+        ensures levels { KeepsQueue self.old → let before = before_at sources.now course.now release.now self.old in
             IsTrue (before.protects mutex) → AreSound before self.old →
             MatchOption (before.world.owner mutex) (self.new ≡ self.old)
             (λ owner. IsRaised before self.old self.new owner (before.world.ceiling mutex)) }
     {
-        if let Some(owner) = owner_before(course, fact, mutex) {
+        if let Some(owner) = owner_before(course, release, mutex) {
             let ceiling = course.mutex(mutex).ceiling;
-            self.raise_from(sources, course, fact, owner, ceiling);
+            self.raise_from(sources, course, release, owner, ceiling);
         }
     }
 
@@ -333,24 +348,30 @@ impl Waiting {
     }
 
     /// Returns the thread to which a waiter donates its level.
-    fn heir_of(&self, sources: &Sources, course: &Course, fact: &Fact, thread: u32) -> Option<u32>
-        ensures { result ≡ heir_by (before_at sources.now course.now fact.now self.now) thread }
+    fn heir_of(
+        &self,
+        sources: &Sources,
+        course: &Course,
+        release: &Release,
+        thread: u32,
+    ) -> Option<u32>
+        ensures { result ≡ heir_by (before_at sources.now course.now release.now self.now) thread }
     {
         let mutex = self.of(thread as usize)?.wait.mutex;
         if family_of(sources, mutex) == Family::Inherit {
-            owner_before(course, fact, mutex)
+            owner_before(course, release, mutex)
         } else {
             None
         }
     }
 }
 
-/// Returns the owner of a mutex before the fact's thread releases its own.
-fn owner_before(course: &Course, fact: &Fact, mutex: u32) -> Option<u32>
-    ensures { result ≡ but_for fact.now.mutex (Some fact.now.thread) (world_of course.now).owner mutex }
+/// Returns the owner of a mutex before a thread releases this or another.
+fn owner_before(course: &Course, release: &Release, mutex: u32) -> Option<u32>
+    ensures { result ≡ but_for release.now.mutex (Some release.now.thread) (world_of course.now).owner mutex }
 {
-    if mutex == fact.mutex {
-        return Some(fact.thread);
+    if mutex == release.mutex {
+        return Some(release.thread);
     }
     course.mutex(mutex).owner
 }

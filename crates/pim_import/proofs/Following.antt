@@ -1,6 +1,6 @@
 -- What is known of the findings on the way through a log.
 use Rattle.std.proofs.Common.{◌≡◌, ◌⊎◌, ℕ, ◌+◌, ◌-◌, ◌<◌, ◌≤◌, ◌||◌, ◌∙◌, Bool, true, false, cond, List, [], ◌∷◌, ◌++◌}
-use Rattle.std.proofs.Common.{length, get_or, take, map, reverse, slice_get, ap, sym, subst, refl, inl, inr, arith, Option}
+use Rattle.std.proofs.Common.{length, get_or, take, map, reverse, slice_get, ap, sym, subst, refl, inl, inr, Option}
 use Rattle.std.proofs.Common.{Some, None, Result, Ok, Err}
 use Rattle.std.proofs.lemmas.Bool.{lt-ltb}
 use Rattle.std.proofs.lemmas.List.{map-append, reverse-append, take_more}

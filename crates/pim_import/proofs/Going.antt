@@ -1,5 +1,5 @@
 -- One step of a walk through a log: by a record, or by a request that the log lacks.
-use Rattle.std.proofs.Common.{◌≡◌, ◌⊎◌, ℕ, ◌+◌, ◌-◌, ◌≤◌, ◌∙◌, List, [], length, ap, refl, subst, arith, Option, Some}
+use Rattle.std.proofs.Common.{◌≡◌, ◌⊎◌, ℕ, ◌+◌, ◌-◌, ◌≤◌, ◌∙◌, List, [], ap, refl, subst, arith, Option, Some}
 use Rattle.std.specs.Option.{option_map_or, unwrap_or}
 use Rattle.std.specs.Prelude.{IfSome, slice_get}
 use Rattle.pim_course.specs.Details.{added_details, details_of}

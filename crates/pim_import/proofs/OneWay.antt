@@ -4,7 +4,7 @@ use Rattle.std.proofs.Common.{subst, refl, inl, inr, arith, Option, Some}
 use Rattle.std.proofs.Math.Path.{fun_ext}
 use Rattle.std.proofs.lemmas.Bool.{cases_lt}
 use Rattle.std.proofs.lemmas.List.{map-append, reverse-append}
-use Rattle.std.specs.Option.{unwrap_or}
+use Rattle.std.specs.Option.{option_map_or, unwrap_or}
 use Rattle.std.specs.Prelude.{IfSome}
 use Rattle.pim_log.proofs.Saying.{same-record}
 use Rattle.pim_log.specs.Events.{time_of}
@@ -28,11 +28,8 @@ use Rattle.pim_requests.proofs.Having.{has-requests}
 use Rattle.pim_findings.specs.Waits.{Moment}
 use Rattle.pim_facts.specs.Covering.{Covers}
 use Rattle.pim_facts.specs.Levels.{id_of}
-use Rattle.pim_facts.specs.declared.family.Family.{Family}
 use Rattle.pim_facts.specs.declared.fact.What.{What}
 use Rattle.pim_facts.specs.declared.fact.What.TheVariants.{Granted, Waits, GaveUp, Released, Level, Ceiling}
-use Rattle.pim_course.specs.Courses.{family_in, mutex_in}
-use Rattle.pim_course.specs.declared.course.CourseMutex.{CourseMutex}
 use Rattle.pim_builder.specs.declared.builder.Context.{Context}
 use Rattle.pim_requests.specs.Laws.{HasBoth}
 use Rattle.pim_requests.specs.declared.waits.Wait.{Wait}
@@ -81,13 +78,12 @@ one-numbering (f ∷ facts) (g ∷ others) from to other same first second =
     let rest : map happening others ≡ map happening facts = cc in
     let what : g.what ≡ f.what = ap (λ h. h.what) is in
     let thread : g.thread ≡ f.thread = ap (λ h. h.thread) is in
-    let mutex : g.mutex ≡ f.mutex = ap (λ h. h.mutex) is in
     let section : g.section ≡ f.section =
-    second.0.section ∙ ap (λ (h : Happening). number_of from h.what h.thread h.mutex) is ∙ sym first.0.section in
+    second.0.section ∙ ap (λ (h : Happening). number_of from h.what h.thread) is ∙ sym first.0.section in
     let since : g.since ≡ f.since =
     second.0.since ∙ ap (λ (h : Happening). since_of from h.what h.thread) is ∙ sym first.0.since in
     let fact : g ≡ f =
-    (λ i. record { what = what i; thread = thread i; mutex = mutex i; section = section i; since = since i }) in
+    (λ i. record { what = what i; thread = thread i; section = section i; since = since i }) in
     let both =
     one-numbering facts others (after_numbered from f) to other rest first.1
     (subst (λ x. AreNumbered others (after_numbered from x) other) fact second.1) in
@@ -109,7 +105,8 @@ one-time bytes number time other log (inr first) (inr second) =
 same-told : (sources : Sources) (c d : Course) (r : Record) → AreAlike sources.ids c d →
     told_by sources d r ≡ told_by sources c r
 same-told sources c d r alike =
-    λ i. event_told sources (alike.world i) (alike.depths i) r.number r.thread (id_of sources.ids r.number) r.event
+    λ i. option_map_or (λ id. event_told sources (alike.world i) (alike.depths i) r.number r.thread id r.event)
+    (id_of sources.ids r.number) []
 
 -- what two courses come to that are alike by what happens, and by the same facts
 abbrev Come : Ids → Course → Course → Type 0
@@ -152,8 +149,9 @@ goes-alike bytes sources number c d x y log covers alike more size (inr first) (
     subst (λ w. Lead (shown_in x.shown) w (world_of y)) at
     (subst (λ facts. Lead facts (world_at d second.found) (world_of y)) both.0 others.0) in
     let depths : depths_after sources d second.found ≡ depths_after sources c first.found =
-    (λ i. depth_after sources (alike.world i) (alike.depths i) (is i).number (is i).thread
-    (id_of sources.ids (is i).number) (is i).event) in (
+    (λ i. option_map_or
+    (λ m. depth_after sources (alike.world i) (alike.depths i) (is i).number (is i).thread m (is i).event)
+    (id_of sources.ids (is i).number) (alike.depths i)) in (
       record {
         first = all-same sources.ids c x alike.first more;
         second = all-same sources.ids d y alike.second size;
@@ -378,29 +376,31 @@ same-way bytes waits sources a b (x ∷ before) (y ∷ others) log of way other 
         let is = request-alike bytes waits sources x y a b of was.0 first second in
         (is.0, views-alike sources a b (x ∷ before) (y ∷ others) is.0 is.1 was.1)
 
-unawaited : (family : Family) (x y : CourseMutex) → y.waiting ≡ x.waiting → IsUnawaited family x → IsUnawaited family y
-unawaited family x y waiting is = record { nobody = waiting ∙ is.nobody; no_ceiling = is.no_ceiling }
+unawaited : (c d : Course) (sources : Sources) (m : ℕ) → sections_of d ≡ sections_of c → IsUnawaited c sources m →
+    IsUnawaited d sources m
+unawaited c d sources m sections is =
+    record { nobody = ap (λ s. s.waiting m) sections ∙ is.nobody; no_ceiling = is.no_ceiling }
 
-still-free : (x y : CourseMutex) → y.owner ≡ x.owner → y.next_owner ≡ x.next_owner → IsFree x → IsFree y
-still-free x y owner next is = record { no_owner = owner ∙ is.no_owner; no_next_owner = next ∙ is.no_next_owner }
+still-free : (c d : Course) (m : ℕ) → world_of d ≡ world_of c → sections_of d ≡ sections_of c → IsFree c m → IsFree d m
+still-free c d m world sections is = record {
+  no_owner = ap (λ w. w.owner m) world ∙ is.no_owner;
+  no_next_owner = ap (λ s. s.next m) sections ∙ is.no_next_owner;
+}
 
-changes-none : (what : What) (family : Family) (x y : CourseMutex) (fact : Fact) → y.waiting ≡ x.waiting →
-    y.owner ≡ x.owner →
-    y.next_owner ≡ x.next_owner → ChangesNoPriority what family x fact → ChangesNoPriority what family y fact
-changes-none Granted family x y fact waiting owner next is = (unawaited family x y waiting is.0, is.1)
-changes-none (Released _) family x y fact waiting owner next is = unawaited family x y waiting is
-changes-none Waits family x y fact waiting owner next is = still-free x y owner next is
-changes-none GaveUp family x y fact waiting owner next is = still-free x y owner next is
-changes-none (Ceiling _) family x y fact waiting owner next (inl is) = inl (still-free x y owner next is)
-changes-none (Ceiling _) family x y fact waiting owner next (inr is) = inr is
-changes-none (Level _) family x y fact waiting owner next is = absurd is
+changes-none : (what : What) (c d : Course) (sources : Sources) (fact : Fact) → world_of d ≡ world_of c →
+    sections_of d ≡ sections_of c → ChangesNoPriority what c sources fact → ChangesNoPriority what d sources fact
+changes-none (Granted m) c d sources fact world sections is = (unawaited c d sources m sections is.0, is.1)
+changes-none (Released m _) c d sources fact world sections is = unawaited c d sources m sections is
+changes-none (Waits m) c d sources fact world sections is = still-free c d m world sections is
+changes-none (GaveUp m) c d sources fact world sections is = still-free c d m world sections is
+changes-none (Ceiling m _) c d sources fact world sections (inl is) = inl (still-free c d m world sections is)
+changes-none (Ceiling m _) c d sources fact world sections (inr is) = inr is
+changes-none (Level _) c d sources fact world sections is = absurd is
 
 -- what may be left out depends on the world and on the critical sections
 left-out-alike : (c d : Course) (sources : Sources) (fact : Fact) → world_of d ≡ world_of c → sections_of d ≡ sections_of c →
     MayBeLeftOut c sources fact → MayBeLeftOut d sources fact
-left-out-alike c d sources fact world sections may =
-    changes-none fact.what (family_in sources fact.mutex) (mutex_in c fact.mutex) (mutex_in d fact.mutex) fact
-    (ap (λ s. s.waiting fact.mutex) sections) (ap (λ w. w.owner fact.mutex) world) (ap (λ s. s.next fact.mutex) sections) may
+left-out-alike c d sources fact world sections may = changes-none fact.what c d sources fact world sections may
 
 must-alike : (c d : Course) (sources : Sources) (fact : Fact) → world_of d ≡ world_of c → sections_of d ≡ sections_of c →
     MustStay c sources fact → MustStay d sources fact

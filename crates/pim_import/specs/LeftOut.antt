@@ -7,20 +7,20 @@ use Rattle.pim_facts.specs.declared.fact.What.TheVariants.{Granted, Waits, GaveU
 use Rattle.pim_course.specs.Courses.{family_in, mutex_in}
 use Rattle.pim_course.specs.Sections.{AreNumbered, AreTogether, IsWithin, Sections}
 use Rattle.pim_course.specs.declared.course.Course.{Course}
-use Rattle.pim_course.specs.declared.course.CourseMutex.{CourseMutex}
 use Rattle.pim_course.specs.declared.course.Sources.{Sources}
+use Rattle.pim_findings.specs.HandOvers.{begins_wait}
 use Rattle.pim_import.specs.declared.critical_sections.CriticalSections.{CriticalSections}
 
 -- Nobody waits for the mutex, and it isn't a PROTECT one. Who owns such a mutex changes no priority: UnawaitedLaw of
 -- pim_replay.
-pub record IsUnawaited (family : Family) (mutex : CourseMutex) : Type 0 where
-  pub nobody : mutex.waiting ≡ 0
-  pub no_ceiling : family ≢ Family.Protect
+pub record IsUnawaited (course : Course) (sources : Sources) (mutex : ℕ) : Type 0 where
+  pub nobody : (mutex_in course mutex).waiting ≡ 0
+  pub no_ceiling : family_in sources mutex ≢ Family.Protect
 
 -- nobody owns the mutex, and it goes to no waiter
-pub record IsFree (mutex : CourseMutex) : Type 0 where
-  pub no_owner : mutex.owner ≡ None
-  pub no_next_owner : mutex.next_owner ≡ None
+pub record IsFree (course : Course) (mutex : ℕ) : Type 0 where
+  pub no_owner : (mutex_in course mutex).owner ≡ None
+  pub no_next_owner : (mutex_in course mutex).next_owner ≡ None
 
 -- the thread didn't wait for the mutex before the critical section that it is granted
 abbrev pub IsNotHandedOver : Fact → Type 0
@@ -28,22 +28,22 @@ IsNotHandedOver fact = (fact.since ≡ None) ⊎ (fact.since ≡ fact.section)
 
 -- What happened to a mutex, which is as the record leaves it, changes no priority: it gets or loses an owner while it is
 -- unawaited, or somebody begins or stops to wait for it, or it has another ceiling, while it is free.
-abbrev pub ChangesNoPriority : What → Family → CourseMutex → Fact → Type 0
-ChangesNoPriority Granted family mutex fact = IsUnawaited family mutex × IsNotHandedOver fact
-ChangesNoPriority (Released next) family mutex fact = IsUnawaited family mutex
-ChangesNoPriority Waits family mutex fact = IsFree mutex
-ChangesNoPriority GaveUp family mutex fact = IsFree mutex
-ChangesNoPriority (Ceiling level) family mutex fact = IsFree mutex ⊎ (family ≢ Family.Protect)
-ChangesNoPriority (Level level) family mutex fact = ⊥
+abbrev pub ChangesNoPriority : What → Course → Sources → Fact → Type 0
+ChangesNoPriority (Granted mutex) course sources fact = IsUnawaited course sources mutex × IsNotHandedOver fact
+ChangesNoPriority (Released mutex next) course sources fact = IsUnawaited course sources mutex
+ChangesNoPriority (Waits mutex) course sources fact = IsFree course mutex
+ChangesNoPriority (GaveUp mutex) course sources fact = IsFree course mutex
+ChangesNoPriority (Ceiling mutex level) course sources fact =
+    IsFree course mutex ⊎ (family_in sources mutex ≢ Family.Protect)
+ChangesNoPriority (Level level) course sources fact = ⊥
 
 -- a trace may be without the fact
 abbrev pub MayBeLeftOut : Course → Sources → Fact → Type 0
-MayBeLeftOut course sources fact =
-    ChangesNoPriority fact.what (family_in sources fact.mutex) (mutex_in course fact.mutex) fact
+MayBeLeftOut course sources fact = ChangesNoPriority fact.what course sources fact
 
 -- a fact keeps its critical section in the trace: a thread begins to wait, or the trace may not be without the fact
 abbrev pub MustStay : Course → Sources → Fact → Type 0
-MustStay course sources fact = (fact.what ≡ Waits) ⊎ (MayBeLeftOut course sources fact → ⊥)
+MustStay course sources fact = IsTrue (begins_wait fact.what) ⊎ (MayBeLeftOut course sources fact → ⊥)
 
 -- the critical section with this number is in the trace; one that nothing is known of is, too
 abbrev pub Keeps : CriticalSections → ℕ → Type 0

@@ -17,7 +17,8 @@ struct Appearing {
     thread: u32,
     /// The level of the thread then.
     level: u8,
-    /// That of the mutex's ceiling.
+    mutex: u32,
+    /// The level of the mutex's ceiling.
     ceiling: u8,
 }
 
@@ -54,37 +55,36 @@ impl Seen {
     /// are in the trace as far as it is known by then.
     pub fn look(&mut self, walk: &Walk, sections: &CriticalSections, number: u64) {
         for fact in walk.shown() {
-            let is_ceiling = matches!(&fact.what, What::Ceiling(_));
-            if fact.mutex != 0 && !is_ceiling {
-                self.see(&walk.course, sections, fact, number);
+            match fact.what {
+                What::Granted(mutex)
+                | What::Waits(mutex)
+                | What::GaveUp(mutex)
+                | What::Released { mutex, .. } => {
+                    let now = Appearing::by(&walk.course, fact, mutex, number);
+                    self.see(sections, fact, &now);
+                }
+                What::Level(_) | What::Ceiling { .. } => {}
             }
         }
     }
 
     /// Notes a thread and a mutex if the critical section is in the trace. Else the grant is kept until it is.
-    fn see(&mut self, course: &Course, sections: &CriticalSections, fact: &Fact, number: u64) {
-        let now = Appearing {
-            number,
-            section: fact.section,
-            thread: fact.thread,
-            level: course.thread(fact.thread).level,
-            ceiling: course.mutex(fact.mutex).ceiling,
-        };
+    fn see(&mut self, sections: &CriticalSections, fact: &Fact, now: &Appearing) {
         if sections.has(fact) {
-            if let Some(grant) = self.grant_of(fact) {
-                self.keep(fact.mutex, None);
-                self.note(fact.mutex, &grant);
+            if let Some(grant) = self.grant_of(now) {
+                self.keep(now.mutex, None);
+                self.note(&grant);
             }
-            self.note(fact.mutex, &now);
-        } else if fact.what == What::Granted {
-            self.keep(fact.mutex, Some(now));
+            self.note(now);
+        } else if matches!(&fact.what, What::Granted(_)) {
+            self.keep(now.mutex, Some(*now));
         }
     }
 
-    /// Returns the grant of the critical section of a fact, if it is kept.
-    fn grant_of(&self, fact: &Fact) -> Option<Appearing> {
-        match self.grants.get(fact.mutex as usize) {
-            Some(Some(grant)) if grant.section == fact.section => Some(*grant),
+    /// Returns the grant of the critical section in which somebody appears, if it is kept.
+    fn grant_of(&self, now: &Appearing) -> Option<Appearing> {
+        match self.grants.get(now.mutex as usize) {
+            Some(Some(grant)) if grant.section == now.section => Some(*grant),
             _ => None,
         }
     }
@@ -104,8 +104,8 @@ impl Seen {
         participants
     }
 
-    /// Notes that a record shows a thread and this mutex.
-    fn note(&mut self, mutex: u32, now: &Appearing) {
+    /// Notes that a record shows a thread and a mutex.
+    fn note(&mut self, now: &Appearing) {
         note(
             &mut self.participants.threads,
             now.thread,
@@ -114,10 +114,24 @@ impl Seen {
         );
         note(
             &mut self.participants.mutexes,
-            mutex,
+            now.mutex,
             now.number,
             now.ceiling,
         );
+    }
+}
+
+impl Appearing {
+    /// Returns who appears by a fact of this mutex, which the record with this number shows.
+    fn by(course: &Course, fact: &Fact, mutex: u32, number: u64) -> Appearing {
+        Appearing {
+            number,
+            section: fact.section,
+            thread: fact.thread,
+            level: course.thread(fact.thread).level,
+            mutex,
+            ceiling: course.mutex(mutex).ceiling,
+        }
     }
 }
 

@@ -139,7 +139,7 @@ impl<'a> Table<'a> {
             self.line.put(" ");
             self.line.address(is.address);
             self.line.put(" ");
-            self.line.number(u64::from(is.process));
+            self.line.number(u64::from(is.process.unwrap_or(0)));
             self.line.put(" ");
             self.labels.put_offset(&mut self.line, mutex, is);
             self.line.put("\n");

@@ -157,7 +157,7 @@ impl Labels {
             }
             Event::Name { .. } => self.begin_name(ids.of_record(number)),
             Event::Module { address } => self.add_module(alloc, record.process, address)?,
-            Event::Init(_) => Pending::Init(ids.of_record(number)),
+            Event::Init(_) => initialised(ids, number),
             Event::Frame { .. } => return self.read_frame(alloc, thread, pending, record.place),
             Event::Child { parent } => {
                 self.add_child(ids, record.process, parent)?;
@@ -176,8 +176,11 @@ impl Labels {
         }
     }
 
-    /// Begins another name of a thread.
-    fn begin_name(&mut self, thread: u32) -> Pending {
+    /// Begins another name of a thread, if the log knows the thread.
+    fn begin_name(&mut self, thread: Option<u32>) -> Pending {
+        let Some(thread) = thread else {
+            return Pending::Nothing;
+        };
         if let Some(name) = self.names.get_mut(thread as usize) {
             *name = UNNAMED;
         }
@@ -229,10 +232,7 @@ impl Labels {
         match pending {
             Pending::Name(thread) => {
                 let thread = thread as usize;
-                if 0 < thread
-                    && thread < self.names.len()
-                    && self.names[thread].as_bytes().is_empty()
-                {
+                if thread < self.names.len() && self.names[thread].as_bytes().is_empty() {
                     self.names[thread] = text;
                 }
             }
@@ -313,8 +313,8 @@ impl Labels {
     }
 
     /// Writes a place in the code, to which a call of this process returns: the text that names it, or else the file and
-    /// the offset of the last byte of the call, or an address.
-    pub fn put_code(&self, out: &mut Out, number: u16, process: u32, returns_to: u64) {
+    /// the offset of the last byte of the call, or an address. `None` if the process isn't known.
+    pub fn put_code(&self, out: &mut Out, number: u16, process: Option<u32>, returns_to: u64) {
         match self.texts.of_number(number) {
             [] => self.put_address(out, process, returns_to.saturating_sub(1)),
             text => put_words(out, text),
@@ -335,8 +335,8 @@ impl Labels {
         true
     }
 
-    /// Writes the file that is loaded at an address of a process and the offset there, or else the address.
-    fn put_address(&self, out: &mut Out, process: u32, address: u64) {
+    /// Writes the file that is loaded at an address of a process, or of any, and the offset there, or else the address.
+    fn put_address(&self, out: &mut Out, process: Option<u32>, address: u64) {
         match self.module_of(process, address) {
             Some(module) => {
                 let file = module.path.as_str().rsplit('/').next().unwrap_or("?");
@@ -348,15 +348,15 @@ impl Labels {
         }
     }
 
-    /// Returns the file that is loaded at an address of a process: of its files, and those of the processes that forked
-    /// it, the nearest that begins there or before.
-    fn module_of(&self, process: u32, address: u64) -> Option<&Module> {
+    /// Returns the file that is loaded at an address of a process, or of any: of its files, and those of the processes that
+    /// forked it, the nearest that begins there or before.
+    fn module_of(&self, process: Option<u32>, address: u64) -> Option<&Module> {
         let mut nearest = self.own_module_of(process, address);
         let mut process = process;
         for _fork in 0..self.children.len() {
-            match self.parent_of(process) {
-                Some(parent) => process = parent,
-                None => break,
+            process = self.parent_of(process);
+            if process.is_none() {
+                break;
             }
             nearest = nearer(nearest, self.own_module_of(process, address));
         }
@@ -364,17 +364,17 @@ impl Labels {
     }
 
     /// Returns the process that forked this one, if the log has it.
-    fn parent_of(&self, process: u32) -> Option<u32> {
+    fn parent_of(&self, process: Option<u32>) -> Option<u32> {
         for child in &self.children {
-            if child.process == process {
+            if Some(child.process) == process {
                 return Some(child.parent);
             }
         }
         None
     }
 
-    /// Returns the file that a process loaded at an address.
-    fn own_module_of(&self, process: u32, address: u64) -> Option<&Module> {
+    /// Returns the file that a process, or any, loaded at an address.
+    fn own_module_of(&self, process: Option<u32>, address: u64) -> Option<&Module> {
         let mut found: Option<&Module> = None;
         for module in &self.modules {
             let is_there = module.address <= address && address - module.address < MODULE_BYTES;
@@ -382,7 +382,8 @@ impl Labels {
                 Some(other) => other.address < module.address,
                 None => true,
             };
-            if (process == 0 || module.process == process) && is_there && is_nearer {
+            let is_own = process.is_none() || process == Some(module.process);
+            if is_own && is_there && is_nearer {
                 found = Some(module);
             }
         }
@@ -400,11 +401,16 @@ fn name_in(names: &[Vec<u8>], number: u32) -> &[u8] {
 
 /// Returns the request that the record with this number is, which frames may follow.
 fn asked(ids: &Ids, number: u64, time: Option<u64>) -> Pending {
-    match time {
-        Some(time) => Pending::Request(Asked {
-            time,
-            mutex: ids.of_record(number),
-        }),
+    match (time, ids.of_record(number)) {
+        (Some(time), Some(mutex)) => Pending::Request(Asked { time, mutex }),
+        _ => Pending::Nothing,
+    }
+}
+
+/// Returns the initialisation that the record with this number is, whose place may follow.
+fn initialised(ids: &Ids, number: u64) -> Pending {
+    match ids.of_record(number) {
+        Some(mutex) => Pending::Init(mutex),
         None => Pending::Nothing,
     }
 }

@@ -126,8 +126,8 @@ pub fn put_code(out: &mut Out, told: &Told, words: &str, thread: u32, place: Opt
         return;
     };
     let process = match told.imported.sources.ids.threads.get(thread as usize) {
-        Some(is) => is.process,
-        None => 0,
+        Some(is) if is.process != 0 => Some(is.process),
+        _ => None,
     };
     out.put(words);
     told.labels.put_code(out, number, process, address);

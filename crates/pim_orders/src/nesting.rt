@@ -1,6 +1,6 @@
 //! A mutex that is asked for by the owner of another.
 ghost use Rattle.std.specs.Prelude.{◌≡◌};
-ghost use Rattle.pim_orders.specs.Nestings.{asks, nesting_of, place_in};
+ghost use Rattle.pim_orders.specs.Nestings.{asked_by, nesting_of, place_in};
 
 use pim_course::Course;
 use pim_facts::{Fact, What};
@@ -26,29 +26,26 @@ pub struct Nesting {
     pub inner_at: Option<u16>,
 }
 
-/// Returns whether the thread of a fact asks for its mutex in a way that may wait.
-pub(crate) fn is_asked(course: &Course, fact: &Fact) -> bool
-    ensures { result ≡ asks course.now fact.now }
+/// Returns the mutex that a thread asks for, in a way that may wait, by what happened to it.
+pub(crate) fn asked_by(course: &Course, what: What) -> Option<u32>
+    ensures { result ≡ asked_by course.now what }
 {
-    match fact.what {
-        What::Waits => true,
-        What::Granted => !course.mutex(fact.mutex).was_tried,
-        What::GaveUp | What::Released(_) | What::Level(_) | What::Ceiling(_) => false,
+    match what {
+        What::Waits(mutex) => Some(mutex),
+        What::Granted(mutex) => (!course.mutex(mutex).was_tried).then_some(mutex),
+        What::GaveUp(_) | What::Released { .. } | What::Level(_) | What::Ceiling { .. } => None,
     }
 }
 
 impl Nesting {
-    /// Returns that the thread of a fact owns another mutex as it asks for that of the fact.
-    pub(crate) fn of(course: &Course, fact: &Fact, outer: u32) -> Nesting
-        ensures { result ≡ nesting_of course.now fact.now outer }
+    /// Returns that the thread of a fact asks for the inner mutex while it owns the outer one.
+    pub(crate) fn of(course: &Course, fact: &Fact, order: Order) -> Nesting
+        ensures { result ≡ nesting_of course.now fact.now order }
     {
         Nesting {
             thread: fact.thread,
-            order: Order {
-                outer,
-                inner: fact.mutex,
-            },
-            outer_at: course.mutex(outer).taken_at,
+            order,
+            outer_at: course.mutex(order.outer).taken_at,
             inner_at: place_of(course, fact),
         }
     }
@@ -59,7 +56,7 @@ fn place_of(course: &Course, fact: &Fact) -> Option<u16>
     ensures { result ≡ place_in course.now fact.now }
 {
     match fact.what {
-        What::Granted => course.mutex(fact.mutex).taken_at,
+        What::Granted(mutex) => course.mutex(mutex).taken_at,
         _ => course.threads.get(fact.thread as usize)?.asked_at,
     }
 }

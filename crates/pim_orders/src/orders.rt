@@ -1,10 +1,10 @@
 //! The orders in which threads took mutexes.
 ghost use Rattle.std.specs.Prelude.{◌≡◌, ℕ, List, [], ◌∷◌, Option, Some, IfOk, IfSome, IfNone};
-ghost use Rattle.pim_orders.specs.Nestings.{Moment, and_nested, and_outer, nestings};
+ghost use Rattle.pim_orders.specs.Nestings.{Moment, and_nested, and_order, nestings};
 ghost use Rattle.pim_orders.specs.Opposites.{AreOpposites};
 ghost use Rattle.pim_orders.specs.Seen.{AreOrders, AreSeen, Knows, and_fact, seen_with};
 
-use crate::nesting::{Nesting, Order, is_asked};
+use crate::nesting::{Nesting, Order, asked_by};
 use crate::opposite::{Opposite, opposite_in};
 use crate::owned::Owned;
 use pim_course::Course;
@@ -65,16 +65,17 @@ impl Orders {
         if thread >= self.owned.len() {
             return Ok(());
         }
-        if is_asked(course, fact) {
-            add_all(&mut self.seen, &self.owned[thread].mutexes, course, fact)?;
+        if let Some(inner) = asked_by(course, fact.what) {
+            let owned = &self.owned[thread].mutexes;
+            add_all(&mut self.seen, owned, course, fact, inner)?;
         }
         match fact.what {
-            What::Granted => self.owned[thread].add(fact.mutex),
-            What::Released(_) => {
-                self.owned[thread].remove(fact.mutex);
+            What::Granted(mutex) => self.owned[thread].add(mutex),
+            What::Released { mutex, .. } => {
+                self.owned[thread].remove(mutex);
                 Ok(())
             }
-            What::Waits | What::GaveUp | What::Level(_) | What::Ceiling(_) => Ok(()),
+            What::Waits(_) | What::GaveUp(_) | What::Level(_) | What::Ceiling { .. } => Ok(()),
         }
     }
 
@@ -116,36 +117,42 @@ impl Orders {
     }
 }
 
-/// Adds that the thread of a fact asks for its mutex while it owns these.
+/// Adds that the thread of a fact asks for the inner mutex while it owns these.
 fn add_all(
     seen: &mut BTreeMap<Order, Seen>,
     owned: &[u32],
     course: &Course,
     fact: &Fact,
+    inner: u32,
 ) -> Result<(), AllocError>
     ensures { IfOk result (λ _. (all : List Nesting) → AreSeen all seen.old →
-        AreSeen (and_nested course.now fact.now owned.now all) seen.new) }
+        AreSeen (and_nested course.now fact.now inner owned.now all) seen.new) }
 {
     for outer in owned {
-        add_outer(seen, course, fact, *outer)?;
+        let order = Order {
+            outer: *outer,
+            inner,
+        };
+        add_order(seen, course, fact, order)?;
     }
     Ok(())
 }
 
-/// Adds that the thread of a fact asks for its mutex while it owns this one, unless that is the same.
-fn add_outer(
+/// Adds that the thread of a fact asks for the inner mutex while it owns the outer one, unless both are
+/// the same.
+fn add_order(
     seen: &mut BTreeMap<Order, Seen>,
     course: &Course,
     fact: &Fact,
-    outer: u32,
+    order: Order,
 ) -> Result<(), AllocError>
     ensures { IfOk result (λ _. (all : List Nesting) → AreSeen all seen.old →
-        AreSeen (and_outer course.now fact.now all outer) seen.new) }
+        AreSeen (and_order course.now fact.now all order) seen.new) }
 {
-    if outer == fact.mutex {
+    if order.outer == order.inner {
         return Ok(());
     }
-    add(seen, Nesting::of(course, fact, outer))
+    add(seen, Nesting::of(course, fact, order))
 }
 
 /// Adds a nesting, if it is the first of these mutexes in this order, or the first by a second

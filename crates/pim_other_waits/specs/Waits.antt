@@ -67,7 +67,7 @@ is_condition _ = false
 abbrev pub level_after : Ids → Record → Event → ℕ → ℕ → ℕ
 level_after ids r (events.Thread pthread priority) t before = if r.thread == t then level_by priority 0 else before
 level_after ids r (events.Priority key priority) t before =
-    if id_of ids r.number == t then level_by priority before else before
+    if option_map_or (λ thread. thread == t) (id_of ids r.number) false then level_by priority before else before
 level_after ids r _ t before = before
 
 -- the level of a thread after these moments

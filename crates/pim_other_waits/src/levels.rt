@@ -44,7 +44,9 @@ impl Levels {
         match record.event {
             Event::Thread { priority, .. } => self.put(record.thread, level_of(priority, 0)),
             Event::Priority { priority, .. } => {
-                let thread = ids.of_record(record.number);
+                let Some(thread) = ids.of_record(record.number) else {
+                    return Ok(());
+                };
                 let before = self.of(ids, thread);
                 self.put(thread, level_of(priority, before))
             }

@@ -1,6 +1,6 @@
 -- How what the threads asked for at last is kept.
 use Rattle.std.proofs.Common.{◌≡◌, ◌≢◌, ◌⊎◌, ℕ, ◌+◌, ◌<◌, ◌==◌, ◌||◌, Bool, true, false, cond, List, length, get_or, set}
-use Rattle.std.proofs.Common.{Option, Some, None, refl, sym, ap, subst, ◌∙◌, inl, inr, arith}
+use Rattle.std.proofs.Common.{Option, None, refl, sym, ap, subst, ◌∙◌, inl, inr, arith}
 use Rattle.std.proofs.lemmas.Bool.{cases_eq, cases_lt}
 use Rattle.std.proofs.lemmas.Grind.{get_or-set_at}
 use Rattle.std.proofs.lemmas.List.{get_or-set_other, length-set}
@@ -66,27 +66,27 @@ same-thread bytes a r log has is e =
           ∙ sym (request-code (fields_in bytes is.slot) r.event is.is.event),
     )
 
-after-length : (q w : Bool) (t m : ℕ) (list : List (Option ℕ)) →
-    length (cond q (set list t (Some m)) (cond w (set list t None) list)) ≡ length list
-after-length true w t m list = length-set list t (Some m)
+after-length : (q w : Bool) (t : ℕ) (m : Option ℕ) (list : List (Option ℕ)) →
+    length (cond q (set list t m) (cond w (set list t None) list)) ≡ length list
+after-length true w t m list = length-set list t m
 after-length false true t m list = length-set list t None
 after-length false false t m list = refl
 
-after-other : (q w : Bool) (t m k : ℕ) (list : List (Option ℕ)) → k ≢ t →
-    get_or (cond q (set list t (Some m)) (cond w (set list t None) list)) k None ≡ get_or list k None
-after-other true w t m k list other = get_or-set_other list t k (Some m) None other
+after-other : (q w : Bool) (t : ℕ) (m : Option ℕ) (k : ℕ) (list : List (Option ℕ)) → k ≢ t →
+    get_or (cond q (set list t m) (cond w (set list t None) list)) k None ≡ get_or list k None
+after-other true w t m k list other = get_or-set_other list t k m None other
 after-other false true t m k list other = get_or-set_other list t k None None other
 after-other false false t m k list other = refl
 
-after-kind : (q w : Bool) (t m : ℕ) (list : List (Option ℕ)) →
-    (cond q (set list t (Some m)) (cond w (set list t None) list) ≡ list) ⊎ ((q || w) ≡ true)
+after-kind : (q w : Bool) (t : ℕ) (m : Option ℕ) (list : List (Option ℕ)) →
+    (cond q (set list t m) (cond w (set list t None) list) ≡ list) ⊎ ((q || w) ≡ true)
 after-kind true w t m list = inr refl
 after-kind false true t m list = inr refl
 after-kind false false t m list = inl refl
 
-after-request : (q w : Bool) (t m k : ℕ) (list : List (Option ℕ)) → q ≡ true → k ≡ t → t < length list →
-    get_or (cond q (set list t (Some m)) (cond w (set list t None) list)) k None ≡ Some m
-after-request true w t m k list e same lt = get_or-set_at list t k (Some m) None same lt
+after-request : (q w : Bool) (t : ℕ) (m : Option ℕ) (k : ℕ) (list : List (Option ℕ)) → q ≡ true → k ≡ t → t < length list →
+    get_or (cond q (set list t m) (cond w (set list t None) list)) k None ≡ m
+after-request true w t m k list e same lt = get_or-set_at list t k m None same lt
 after-request false w t m k list e same lt = cc
 
 longer : (bytes : List ℕ) (t low n : ℕ) → HasMovedOn bytes t low n → HasMovedOn bytes t low (n + 1)
@@ -101,8 +101,8 @@ longer bytes t low n moved =
     }
 
 still : (bytes : List ℕ) (ids : Ids) (n : ℕ) (a : Record) (before after : Option ℕ) → after ≡ before →
-    (before ≡ Some (id_of ids a.number)) ⊎ HasMovedOn bytes a.thread a.number n →
-    (after ≡ Some (id_of ids a.number)) ⊎ HasMovedOn bytes a.thread a.number (n + 1)
+    (before ≡ id_of ids a.number) ⊎ HasMovedOn bytes a.thread a.number n →
+    (after ≡ id_of ids a.number) ⊎ HasMovedOn bytes a.thread a.number (n + 1)
 still bytes ids n a before after same known = elim known [
   | inl e ↦ inl (same ∙ e)
   | inr moved ↦ inr (longer bytes a.thread a.number n moved)
@@ -146,7 +146,7 @@ knows-more bytes ids n list new r log is at put knows = λ a has request lt belo
           ap (λ l. get_or l a.thread None) put
           ∙ after-request q w r.thread m a.thread list (sym both.1 ∙ request) both.0
           (subst (λ t. t < length list) both.0 was)
-          ∙ ap (λ k. Some (id_of ids k)) (sym e)
+          ∙ ap (λ k. id_of ids k) (sym e)
           )
     ]
 
@@ -168,10 +168,10 @@ knows-first bytes ids list = λ a has request lt below. absurd (omega (arith, ha
 
 -- what the thread of a call asked for at last isn't the mutex of the call
 pub lacks : (bytes : List ℕ) (ids : Ids) (list : List (Option ℕ)) (r : Record) → r.thread < length list →
-    get_or list r.thread None ≢ Some (id_of ids r.number) → KnowsAsked bytes ids r.number list → LacksRequest bytes ids r
+    get_or list r.thread None ≢ id_of ids r.number → KnowsAsked bytes ids r.number list → LacksRequest bytes ids r
 lacks bytes ids list r lt other knows = λ a has request thread mutex before.
     elim (knows a has request (subst (λ t. t < length list) (sym thread) lt) before) [
-      | inl e ↦ absurd (other (ap (λ t. get_or list t None) (sym thread) ∙ e ∙ ap (λ k. Some k) mutex))
+      | inl e ↦ absurd (other (ap (λ t. get_or list t None) (sym thread) ∙ e ∙ mutex))
       | inr moved ↦ record {
         own = moved.own;
         has = moved.has;

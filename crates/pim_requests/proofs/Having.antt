@@ -1,11 +1,11 @@
 -- The course of a log has those of each request that the log lacks.
-use Rattle.std.proofs.Common.{ℕ, zero, suc, ◌<◌, List, [], ◌∷◌, length, sym, subst, inl, inr}
+use Rattle.std.proofs.Common.{ℕ, zero, suc, ◌<◌, List, [], ◌∷◌, length, Option, sym, subst, inl, inr}
 use Rattle.std.specs.Prelude.{All, IfSome, slice_get}
 use Rattle.std.proofs.lemmas.List.Elements.{All-head, All-tail}
 use Rattle.std.proofs.lemmas.Option.{slice_get_within}
 use Rattle.pim_log.specs.declared.event.Event.{Event}
 use Rattle.pim_log.specs.declared.event.Event.TheVariants as event
-use Rattle.pim_facts.specs.Covering.{Covers, HasNumber, HasThoseOf}
+use Rattle.pim_facts.specs.Covering.{Covers, HasId, HasKnownMutex, HasMutex, HasThoseOf}
 use Rattle.pim_facts.specs.Levels.{id_of}
 use Rattle.pim_facts.specs.declared.ids.Ids.{Ids}
 use Rattle.pim_course.specs.Reading.{HasAllOf}
@@ -15,34 +15,34 @@ use Rattle.pim_requests.specs.Asked.{IsOfCall, IsOfWait, IsShown, MayHaveWaited}
 use Rattle.pim_requests.specs.Laws.{HasBoth, RequestsLaw}
 use Rattle.pim_requests.specs.declared.waits.Wait.{Wait}
 
-named : (ids : Ids) (n : ℕ) (e : Event) → MayHaveWaited e → HasNumber ids e n → (0 < n) × (n < length ids.mutexes.items)
-named ids n (event.Thread _ _) waited about = absurd waited
-named ids n (event.Name _) waited about = absurd waited
-named ids n event.Create waited about = absurd waited
-named ids n event.Exit waited about = absurd waited
-named ids n (event.Priority _ _) waited about = absurd waited
-named ids n event.Fork waited about = absurd waited
-named ids n (event.Child _) waited about = absurd waited
-named ids n event.Exec waited about = absurd waited
-named ids n event.ExecFailed waited about = absurd waited
-named ids n event.End waited about = absurd waited
-named ids n (event.Module _) waited about = absurd waited
-named ids n (event.Place _) waited about = absurd waited
-named ids n (event.Text _) waited about = absurd waited
-named ids n (event.Init _) waited about = absurd waited
-named ids n (event.Destroy _) waited about = absurd waited
-named ids n (event.DestroyFailed _) waited about = absurd waited
-named ids n (event.Ceiling _) waited about = absurd waited
-named ids n (event.Request _ _) waited about = absurd waited
-named ids n (event.Granted _ _ _) waited about = about
-named ids n (event.Failed _ _ _) waited about = about
-named ids n (event.Release _ _) waited about = absurd waited
-named ids n (event.ReleaseFailed _) waited about = absurd waited
-named ids n (event.Condition _) waited about = absurd waited
-named ids n (event.Wait _) waited about = absurd waited
-named ids n (event.Waited _ _ _) waited about = absurd waited
-named ids n (event.Give _ _) waited about = absurd waited
-named ids n (event.Frame _) waited about = absurd waited
+named : (ids : Ids) (id : Option ℕ) (e : Event) → MayHaveWaited e → HasId ids e id → HasKnownMutex ids id
+named ids id (event.Thread _ _) waited about = absurd waited
+named ids id (event.Name _) waited about = absurd waited
+named ids id event.Create waited about = absurd waited
+named ids id event.Exit waited about = absurd waited
+named ids id (event.Priority _ _) waited about = absurd waited
+named ids id event.Fork waited about = absurd waited
+named ids id (event.Child _) waited about = absurd waited
+named ids id event.Exec waited about = absurd waited
+named ids id event.ExecFailed waited about = absurd waited
+named ids id event.End waited about = absurd waited
+named ids id (event.Module _) waited about = absurd waited
+named ids id (event.Place _) waited about = absurd waited
+named ids id (event.Text _) waited about = absurd waited
+named ids id (event.Init _) waited about = absurd waited
+named ids id (event.Destroy _) waited about = absurd waited
+named ids id (event.DestroyFailed _) waited about = absurd waited
+named ids id (event.Ceiling _) waited about = absurd waited
+named ids id (event.Request _ _) waited about = absurd waited
+named ids id (event.Granted _ _ _) waited about = about
+named ids id (event.Failed _ _ _) waited about = about
+named ids id (event.Release _ _) waited about = absurd waited
+named ids id (event.ReleaseFailed _) waited about = absurd waited
+named ids id (event.Condition _) waited about = absurd waited
+named ids id (event.Wait _) waited about = absurd waited
+named ids id (event.Waited _ _ _) waited about = absurd waited
+named ids id (event.Give _ _) waited about = absurd waited
+named ids id (event.Frame _) waited about = absurd waited
 
 of-call : (bytes : List ℕ) (ids : Ids) (course : Course) (r : Request) → Covers ids bytes → HasAllOf ids course →
     IsOfCall bytes ids r → HasBoth course r
@@ -50,15 +50,14 @@ of-call bytes ids course r covers all is =
     let those : HasThoseOf ids is.end (id_of ids is.end.number) =
     covers is.ends.slot is.end.number is.end is.ends.numbered.below is.ends.numbered is.ends.is in
     let has : is.end.thread < length ids.threads.items = those.thread in
-    let number = named ids (id_of ids is.end.number) is.end.event is.lasted those.about in (
+    let number : HasMutex ids r.mutex =
+    subst (HasKnownMutex ids) is.mutex (named ids (id_of ids is.end.number) is.end.event is.lasted those.about) in (
       record {
         thread = subst (λ t. t < length course.threads.items) (sym is.thread)
             (subst (λ n. is.end.thread < n) (sym all.threads) has);
-        mutex = subst (λ m. 0 < m) (sym is.mutex) number.0;
+        mutex = number.0;
       },
-      subst (λ m. m < length course.mutexes.items) (sym is.mutex)
-          (subst (λ n. id_of ids is.end.number < n) (sym all.mutexes)
-          number.1),
+      subst (λ n. r.mutex < n) (sym all.mutexes) number.1,
     )
 
 of-wait : (ids : Ids) (waits : List Wait) (course : Course) (r : Request) → HasAllOf ids course → IsOfWait ids waits r →

@@ -37,12 +37,12 @@ IsAfter (Some began) (Some time) = began < time
 IsAfter (Some began) None = ⊥
 IsAfter None _ = Unit {0}
 
--- a grant shows that the call waited that ends with a record: it is earlier, of the same mutex and by another thread, and
--- its time is after the begin of the call, if that is known
-pub record ShowsWait (ids : Ids) (end grant : Record) : Type 0 where
+-- a grant shows that the call for a mutex waited that ends with a record: it is earlier, of that mutex and by another
+-- thread, and its time is after the begin of the call, if that is known
+pub record ShowsWait (ids : Ids) (m : ℕ) (end grant : Record) : Type 0 where
   pub granted : IsGrant grant.event
   pub earlier : grant.number < end.number
-  pub mutex : id_of ids grant.number ≡ id_of ids end.number
+  pub mutex : id_of ids grant.number ≡ Some m
   pub another : grant.thread ≢ end.thread
   pub later : IsAfter (began_of end) grant.time
 
@@ -92,9 +92,9 @@ pub record IsOfCall (bytes : List ℕ) (ids : Ids) (request : Request) : Type 0 
   pub lacks : LacksRequest bytes ids end
   pub grant : Record
   pub granted : IsIn bytes grant
-  pub shown : ShowsWait ids end grant
+  pub shown : ShowsWait ids request.mutex end grant
   pub thread : request.thread ≡ end.thread
-  pub mutex : request.mutex ≡ id_of ids end.number
+  pub mutex : id_of ids end.number ≡ Some request.mutex
   pub place : request.place ≡ end.place
   pub time : request.time ≡ None
   pub after : (request.after ≡ grant.number) ⊎ IsBetween bytes grant.number end request.after
@@ -110,7 +110,7 @@ pub record IsWaitOf (ids : Ids) (wait : Wait) (t m : ℕ) : Type 0 where
   pub mutex : LoggedMutex
   pub has_mutex : slice_get ids.mutexes.items m ≡ Some mutex
   pub address : mutex.address ≡ wait.address
-  pub process : (mutex.process ≡ thread.process) ⊎ (mutex.process ≡ 0)
+  pub process : (mutex.process ≡ Some thread.process) ⊎ (mutex.process ≡ None)
 
 -- a request that one of the waits shows: it is of the wait's thread, for its mutex, and begins with it
 pub record IsOfWait (ids : Ids) (waits : List Wait) (request : Request) : Type 0 where

@@ -10,7 +10,7 @@ use std::alloc::{AllocError, Global};
 /// The grants of each mutex so far, in order. Its owner may be granted it again.
 #[derive(Drop)]
 pub(crate) struct Grants {
-    /// The numbers of the records, those of mutex 0 first.
+    /// The numbers of the records, those of each mutex together.
     numbers: Vec<u64>,
     /// By the place of a grant that of the one since which its thread owns the mutex.
     firsts: Vec<u32>,
@@ -46,10 +46,14 @@ impl Grants {
     pub fn of(alloc: Global, log: &Log, ids: &Ids) -> Result<Grants, AllocError> {
         let mut begins = vec![in alloc; 0; ids.mutexes.len()]?;
         for number in 1..log.header().end() {
-            if let Some(record) = log.record(number) {
-                if is_grant(&record) {
-                    count(&mut begins, ids.of_record(number));
-                }
+            let Some(record) = log.record(number) else {
+                continue;
+            };
+            if !is_grant(&record) {
+                continue;
+            }
+            if let Some(mutex) = ids.of_record(number) {
+                count(&mut begins, mutex);
             }
         }
         let total = begin_each(&mut begins) as usize;

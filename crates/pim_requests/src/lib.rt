@@ -11,7 +11,6 @@
 #![tactic(auto)]
 
 mod grants;
-mod ids;
 mod laws;
 mod requests;
 mod waits;

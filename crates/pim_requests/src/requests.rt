@@ -81,18 +81,26 @@ fn add_silent(alloc: Global, log: &Log, sources: &Sources, to: &mut Asked) -> Re
         let Some(record) = log.record(number) else {
             continue;
         };
-        let (thread, mutex) = (record.thread, ids.of_record(number));
-        let own = get(&last, thread);
+        let own = get(&last, record.thread);
         add_call(log, ids, &grants, &mut asked, &record, own, to)?;
-        let before = walk.course.mutex(mutex).owner;
-        let _moment = walk.read(log, sources, number);
-        let owner = walk.course.mutex(mutex).owner;
-        grants.pass(&record, mutex, before, owner);
+        pass(log, sources, &mut walk, &mut grants, &record);
         if record.time.is_some() {
-            set(&mut last, thread, Some(number));
+            set(&mut last, record.thread, Some(number));
         }
     }
     Ok(())
+}
+
+/// Goes past a record, and keeps how long its mutex was owned, if it is of one.
+fn pass(log: &Log, sources: &Sources, walk: &mut Walk, grants: &mut Grants, record: &Record) {
+    let Some(mutex) = sources.ids.of_record(record.number) else {
+        let _moment = walk.read(log, sources, record.number);
+        return;
+    };
+    let before = walk.course.mutex(mutex).owner;
+    let _moment = walk.read(log, sources, record.number);
+    let owner = walk.course.mutex(mutex).owner;
+    grants.pass(record, mutex, before, owner);
 }
 
 /// Adds the request of the call that ends with this record, if it put none, a grant shows that it waited, and no wait ends
@@ -115,31 +123,42 @@ fn add_call(
     if !misses_request(asked, end, mutex) || to.ends.binary_search(&end.number).is_ok() {
         return Ok(());
     }
+    let Some(mutex) = mutex else {
+        return Ok(());
+    };
     let Some(grant) = grants.first_since(log, end, mutex) else {
         return Ok(());
     };
-    let Some(request) = request_of(log, ids, end, grant, own) else {
+    let Some(request) = request_of(log, ids, end, mutex, grant, own) else {
         return Ok(());
     };
     to.list.push(request)?;
     Ok(())
 }
 
-/// Returns the request of the call that ends with this record. The grant with the first number shows that the call waited.
-fn request_of(log: &Log, ids: &Ids, end: &Record, grant: u64, own: Option<u64>) -> Option<Request>
+/// Returns the request of the call for a mutex that ends with this record. The grant with this number shows that the call
+/// waited. The last number is that of the thread's last record before.
+fn request_of(
+    log: &Log,
+    ids: &Ids,
+    end: &Record,
+    mutex: u32,
+    grant: u64,
+    own: Option<u64>,
+) -> Option<Request>
     ensures { IsIn log.now end.now → MayHaveWaited end.now.event → LacksRequest log.now ids.now end.now →
-        IfSome result (IsOfCall log.now ids.now) }
+        id_of ids.now end.now.number ≡ Some mutex → IfSome result (IsOfCall log.now ids.now) }
 {
     let grant = log.record(grant)?;
     // Each grant that is found shows it, which isn't proved of the search.
-    if !shows_wait(ids, end, &grant) {
+    if !shows_wait(ids, end, mutex, &grant) {
         return None;
     }
     Some(Request {
         after: behind(log, end, grant.number, own),
         time: None,
         thread: end.thread,
-        mutex: ids.of_record(end.number),
+        mutex,
         place: end.place,
     })
 }
@@ -155,13 +174,14 @@ fn behind(log: &Log, end: &Record, grant: u64, own: Option<u64>) -> u64
     }
 }
 
-/// Returns whether the call waited that ends with this record, as the other one shows: its mutex was granted to another.
-fn shows_wait(ids: &Ids, end: &Record, grant: &Record) -> bool
-    ensures { IsTrue result → ShowsWait ids.now end.now grant.now }
+/// Returns whether the call for a mutex waited that ends with this record, as the other one shows: the mutex was granted to
+/// another.
+fn shows_wait(ids: &Ids, end: &Record, mutex: u32, grant: &Record) -> bool
+    ensures { IsTrue result → ShowsWait ids.now mutex end.now grant.now }
 {
     is_grant(grant)
         && grant.number < end.number
-        && ids.of_record(grant.number) == ids.of_record(end.number)
+        && ids.of_record(grant.number) == Some(mutex)
         && grant.thread != end.thread
         && may_have_lasted(end, grant.time)
 }
@@ -187,9 +207,11 @@ fn misses_some(alloc: Global, log: &Log, ids: &Ids) -> Result<bool, AllocError> 
         if !is_of_call(&record.event) {
             continue;
         }
-        let mutex = ids.of_record(number);
+        let Some(mutex) = ids.of_record(number) else {
+            continue;
+        };
         let before = get(&latest, mutex);
-        if misses_request(&mut asked, &record, mutex) && may_have_lasted(&record, before) {
+        if misses_request(&mut asked, &record, Some(mutex)) && may_have_lasted(&record, before) {
             return Ok(true);
         }
         if is_grant(&record) {
@@ -225,11 +247,11 @@ fn may_have_lasted(record: &Record, time: Option<u64>) -> bool
 /// Returns whether a call ends with this record that may have waited, and put no REQUEST. The list has the mutex that each
 /// thread asked for at last, until a call of it ends.
 #[inline(always)]
-fn misses_request(asked: &mut Vec<Option<u32>>, record: &Record, mutex: u32) -> bool
+fn misses_request(asked: &mut Vec<Option<u32>>, record: &Record, mutex: Option<u32>) -> bool
     ensures asked { asked.new.items ≡ asked_after record.now.event record.now.thread mutex asked.old.items }
     ensures waited { IsTrue result → MayHaveWaited record.now.event }
     ensures lacks { IsTrue result → (record.now.thread < length asked.old.items)
-        × (slice_index_or asked.old.items record.now.thread None ≢ Some mutex) }
+        × (slice_index_or asked.old.items record.now.thread None ≢ mutex) }
 {
     let is_other = is_other(asked, record.thread, mutex);
     note(asked, record, mutex);
@@ -254,22 +276,22 @@ fn may_have_waited(event: &Event) -> bool
 
 /// Returns whether there is a thread with this number, and it asked for no mutex at last or for another.
 #[inline(always)]
-fn is_other(asked: &[Option<u32>], thread: u32, mutex: u32) -> bool
-    ensures { IsTrue result → (thread < length asked.now) × (slice_index_or asked.now thread None ≢ Some mutex) }
+fn is_other(asked: &[Option<u32>], thread: u32, mutex: Option<u32>) -> bool
+    ensures { IsTrue result → (thread < length asked.now) × (slice_index_or asked.now thread None ≢ mutex) }
 {
     match asked.get(thread as usize) {
-        Some(is) => *is != Some(mutex),
+        Some(is) => *is != mutex,
         None => false,
     }
 }
 
 /// Keeps what the thread of a record asks for, until a call of it ends.
 #[inline(always)]
-fn note(asked: &mut Vec<Option<u32>>, record: &Record, mutex: u32)
+fn note(asked: &mut Vec<Option<u32>>, record: &Record, mutex: Option<u32>)
     ensures { asked.new.items ≡ asked_after record.now.event record.now.thread mutex asked.old.items }
 {
     match record.event {
-        Event::Request { .. } => put(asked, record.thread, Some(mutex)),
+        Event::Request { .. } => put(asked, record.thread, mutex),
         Event::Granted { .. } | Event::Failed { .. } => put(asked, record.thread, None),
         _ => {}
     }

@@ -13,7 +13,6 @@ ghost use Rattle.std.specs.Prelude.{◌≡◌, All, Contains, IfOk, IfSome, IsTr
 ghost use Rattle.pim_requests.specs.Asked.{IsOfWait, IsWaitOf};
 ghost use Rattle.pim_requests.specs.Searching.{AreOfWaits, IsPendingOf};
 
-use crate::ids::unless_zero;
 use pim_course::lists::{get, set};
 use pim_course::{Course, Request, Sources, Walk};
 use pim_facts::Ids;
@@ -293,11 +292,20 @@ impl Search {
         self.learn(sources, record, id)?;
         self.settle(sources, &mut walk.course, record, id)?;
         self.end_wait(record)?;
-        set(&mut self.last, record.thread, Some(record.number));
-        if matches!(record.event, Event::Release { .. }) {
-            set(&mut self.released, id, Some(record.number));
-        }
+        self.keep_last(record, id);
         Ok(())
+    }
+
+    /// Keeps the number of a record, which is the last one of its thread so far, and of its mutex if it is a RELEASE.
+    fn keep_last(&mut self, record: &Record, id: Option<u32>)
+        ensures waits { self.new.waits ≡ self.old.waits }
+        ensures pending { self.new.pending ≡ self.old.pending }
+        ensures found { self.new.found ≡ self.old.found }
+    {
+        set(&mut self.last, record.thread, Some(record.number));
+        if let (Event::Release { .. }, Some(mutex)) = (record.event, id) {
+            set(&mut self.released, mutex, Some(record.number));
+        }
     }
 
     /// A record ends the wait of its thread, if one was found since the thread's last record: both are of one call.
@@ -314,7 +322,12 @@ impl Search {
     }
 
     /// Learns who has the number of a thread, and which mutex is at an address.
-    fn learn(&mut self, sources: &Sources, record: &Record, id: u32) -> Result<(), AllocError>
+    fn learn(
+        &mut self,
+        sources: &Sources,
+        record: &Record,
+        id: Option<u32>,
+    ) -> Result<(), AllocError>
         ensures waits { self.new.waits ≡ self.old.waits }
         ensures pending { self.new.pending ≡ self.old.pending }
         ensures found { self.new.found ≡ self.old.found }
@@ -322,18 +335,20 @@ impl Search {
         if get(&self.last, record.thread).is_none() {
             self.threads.insert(record.task, record.thread)?;
         }
-        if record.event.mutex().is_none() || id <= self.named {
-            return Ok(());
-        }
-        self.named = id;
-        let Some(is) = sources.ids.mutex(id) else {
+        let Some(mutex) = id else {
             return Ok(());
         };
-        let process = unless_zero(is.process);
-        if process.is_none() {
+        if record.event.mutex().is_none() || mutex <= self.named {
+            return Ok(());
+        }
+        self.named = mutex;
+        let Some(is) = sources.ids.mutex(mutex) else {
+            return Ok(());
+        };
+        if is.process.is_none() {
             let _before = self.mutexes.remove(&(Some(record.process), is.address));
         }
-        self.mutexes.insert((process, is.address), id)?;
+        self.mutexes.insert((is.process, is.address), mutex)?;
         Ok(())
     }
 
@@ -343,7 +358,7 @@ impl Search {
         sources: &Sources,
         course: &mut Course,
         record: &Record,
-        id: u32,
+        id: Option<u32>,
     ) -> Result<(), AllocError>
         ensures { (waits : List Wait) → AreOfWaits sources.now.ids waits self.old →
             OnOk result (AreOfWaits sources.now.ids waits self.new) }
@@ -364,7 +379,7 @@ impl Search {
         sources: &Sources,
         course: &mut Course,
         record: &Record,
-        id: u32,
+        id: Option<u32>,
         one: &Pending,
     ) -> Result<(), AllocError>
         ensures { (waits : List Wait) → IsPendingOf sources.now.ids waits one.now →
@@ -411,11 +426,11 @@ impl Search {
 
 impl Pending {
     /// Returns where the request belongs, as far as this record and those before it say.
-    fn place(&self, record: &Record, id: u32) -> Place {
+    fn place(&self, record: &Record, id: Option<u32>) -> Place {
         if record.thread == self.request.thread {
             return self.before_or(Place::Never);
         }
-        if !matches!(record.event, Event::Granted { .. }) || id != self.request.mutex {
+        if !matches!(record.event, Event::Granted { .. }) || id != Some(self.request.mutex) {
             return Place::Later;
         }
         let has_begun = match record.began() {
@@ -451,5 +466,5 @@ fn is_of(wait: &Wait, ids: &Ids, thread: u32, mutex: u32) -> bool
     if thread == 0 || mutex == 0 || of.task != wait.task || at.address != wait.address {
         return false;
     }
-    at.process == of.process || at.process == 0
+    at.process == Some(of.process) || at.process.is_none()
 }

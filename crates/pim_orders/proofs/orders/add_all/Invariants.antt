@@ -7,4 +7,4 @@ use Rattle.pim_orders.proofs.orders.add_all.Given as goal
 -- the nestings in the mutexes so far are added
 abbrev pub invariant-loop-outer : goal.invariant-loop-outer
 invariant-loop-outer l = (all : List Nesting) → AreSeen all l.fn.seen →
-    AreSeen (and_nested l.course l.fact (take l.outer-index l.owned) all) l.seen
+    AreSeen (and_nested l.course l.fact l.inner (take l.outer-index l.owned) all) l.seen

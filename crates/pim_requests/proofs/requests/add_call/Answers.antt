@@ -1,4 +1,4 @@
-use Rattle.std.proofs.Common.{◌∙◌, ap, inl, rules, Some, sym}
+use Rattle.std.proofs.Common.{◌∙◌, inl, rules, sym}
 use Rattle.std.proofs.lemmas.List.Elements.{All-push, All-same}
 use Rattle.pim_requests.specs.Asked.{IsShown}
 use Rattle.pim_requests.proofs.Asking.{lacks}
@@ -11,4 +11,5 @@ returns-clause-shown c = λ waits ends knows all.
     (All-push (IsShown c.args.log.now c.args.ids.now waits) _ _ all
     (inl (c.in-Some-request_of.ensures ends (search rules)
     (lacks c.args.log.now c.args.ids.now c.args.asked.now.items c.args.end.now so.0
-    (λ e. so.1 (e ∙ ap (λ k. Some k) (sym c.of_record-mutex.ensures))) knows))))
+    (λ e. so.1 (e ∙ sym c.of_record-mutex.ensures)) knows)
+    (sym c.of_record-mutex.ensures ∙ c.in-Some.is))))

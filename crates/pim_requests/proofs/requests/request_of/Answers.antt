@@ -3,7 +3,7 @@ use Rattle.pim_requests.proofs.Showing.{is-in}
 use Rattle.pim_requests.proofs.requests.request_of.Goals as goal
 
 pub returns : goal.returns
-returns c = λ ends lasted lacks. record {
+returns c = λ ends lasted lacks mutex. record {
   end = c.args.end.now;
   ends = ends;
   lasted = lasted;
@@ -12,7 +12,7 @@ returns c = λ ends lasted lacks. record {
   granted = is-in _ _ _ c.in_ok-grant.ensures;
   shown = c.if-not-shows_wait.ensures refl;
   thread = refl;
-  mutex = c.of_record.ensures;
+  mutex = mutex;
   place = refl;
   time = refl;
   after = c.behind.ensures;

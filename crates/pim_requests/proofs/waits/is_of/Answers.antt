@@ -3,8 +3,8 @@ use Rattle.std.proofs.lemmas.Grind.{common_steps}
 use Rattle.std.proofs.lemmas.Option.{gets}
 use Rattle.pim_requests.proofs.waits.is_of.Goals as goal
 
-pub returns-then-at-of : goal.returns-then-at-of
-returns-then-at-of c = λ is. record {
+pub returns-then-eq : goal.returns-then-eq
+returns-then-eq c = λ is. record {
   above = omega arith;
   thread = c.in-Some-Some.of.now;
   has_thread = grind (arith, common_steps, gets);
@@ -16,8 +16,8 @@ returns-then-at-of c = λ is. record {
   process = inl (search rules);
 }
 
-pub returns-else-at-of : goal.returns-else-at-of
-returns-else-at-of c = λ is. record {
+pub returns-else-eq : goal.returns-else-eq
+returns-else-eq c = λ is. record {
   above = omega arith;
   thread = c.in-Some-Some.of.now;
   has_thread = grind (arith, common_steps, gets);

@@ -18,7 +18,7 @@ returns-then-ne-clause-shown c has none =
     led-by 1 old c.wait.new.self (omega arith)
     (goes-then 0 1 old c.ask_at.new.self c.wait.new.self (goes-still old c.ask_at.new.self still)
     (c.wait.ensures.goes (omega (arith, has.thread, c.ask_at.ensures.size.threads))
-    (subst (λ w. CanHappen w Waits c.args.request.now.thread c.args.request.now.mutex) (sym still.world) (
+    (subst (λ w. CanHappen w (Waits c.args.request.now.mutex) c.args.request.now.thread) (sym still.world) (
       ap (λ y. y.awaits) (sym c.thread.ensures) ∙ none-by _ (c.is_none.ensures ∙ ap not c.if-is_none.true),
       λ e. isnt-that _ _ (grind (arith, c.ne.ensures, c.if-ne.true, c.if-ne.ensures))
           (ap (λ z. z.owner) c.mutex-is.ensures ∙ e),

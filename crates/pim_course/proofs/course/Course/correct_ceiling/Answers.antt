@@ -13,7 +13,7 @@ returns-clause-owner c =
 
 pub returns-clause-goes : goal.returns-clause-goes
 returns-clause-goes c below =
-    goes-added c.args.self.now c.put_mutex.new.self _ _ _ c.fact-corrected.ensures
+    goes-added c.args.self.now c.put_mutex.new.self _ _ _ c.fact.ensures
     (ap (λ d. d.shown) c.put_mutex.ensures.rest) c.add.ensures.shown c.add.ensures.full
     (λ e. c.if-is-ceiling.false (ap (λ z. z.ceiling) c.mutex-is.ensures ∙ e))
     (world-ceiling c.args.self.now c.put_mutex.new.self _ _ (ap (λ d. d.threads.items) c.put_mutex.ensures.rest)
@@ -21,7 +21,7 @@ returns-clause-goes c below =
 
 pub returns-clause-sections : goal.returns-clause-sections
 returns-clause-sections c =
-    numbers-added c.args.self.now c.put_mutex.new.self _ _ _ c.fact-corrected.ensures
+    numbers-added c.args.self.now c.put_mutex.new.self _ _ _ c.fact.ensures
     (ap (λ d. d.shown) c.put_mutex.ensures.rest) c.add.ensures.shown c.add.ensures.full
     (record { section = ap (λ z. z.section) c.mutex-is.ensures; since = refl })
     (same-mutex c.args.self.now c.put_mutex.new.self _ _ c.put_mutex.ensures.mutexes

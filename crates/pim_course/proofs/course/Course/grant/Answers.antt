@@ -1,4 +1,3 @@
-use Rattle.std.proofs.lemmas.Bool.{ne_eqb}
 use Rattle.std.specs.Option.{option_map_or, unwrap_or}
 use Rattle.std.proofs.Common.{cond, [], ℕ, Option, ◌≡◌, ◌⊎◌, ◌<◌, Some, None, length, inl, inr, refl, ap, sym, ◌∙◌, arith}
 use Rattle.pim_facts.specs.declared.fact.What.TheVariants.{Granted, Released}
@@ -9,7 +8,7 @@ use Rattle.pim_course.specs.World.{World, but_for, world_of}
 use Rattle.pim_course.specs.Going.{IsStill}
 use Rattle.pim_course.specs.declared.course.CourseMutex.{CourseMutex}
 use Rattle.pim_course.specs.declared.course.Course.{Course}
-use Rattle.pim_course.proofs.Telling.{depth-put, gave-up-same, if-not, neither, not-that, tells-behind, tells-same}
+use Rattle.pim_course.proofs.Telling.{depth-put, gave-up-same, if-not, not-that, tells-behind, tells-same}
 use Rattle.pim_course.proofs.Telling.{tells-then}
 use Rattle.pim_course.proofs.Leading.{goes-marked, goes-still, goes-then}
 use Rattle.pim_course.proofs.Numbering.{numbers-marked, numbers-none, numbers-then}
@@ -75,10 +74,9 @@ returns-clause-told c =
     let is : is_that ((world_of b).awaits t) m ≡ is_that ((world_of old).awaits t) m =
     c.correct_wait.ensures.same m refl ∙ ap (λ (h : ℕ → Option ℕ). is_that (h t) m) awaits in
     tells-same 4 _ _ old new
-    (sym (if-not _ _ _ (neither _ _ (ne_eqb m 0 (λ e. omega (arith, e, c.if-mutex-eq0.false)))
-    (not-that _ _ _ (ap (λ z. z.owner) c.mutex-owner.ensures)
-    (sym c.eq.ensures ∙ c.if-eq.false)))))
-    (tells-then 3 1 _ (did Granted t m) old g new
+    (sym (if-not _ _ _ (not-that _ _ _ (ap (λ z. z.owner) c.mutex-owner.ensures)
+    (sym c.eq.ensures ∙ c.if-eq.false))))
+    (tells-then 3 1 _ (did (Granted m) t) old g new
     (tells-then 2 1 _ freed old b g
     (tells-then 1 1 said gone old a b
     (tells-behind 1 said old f a still.shown
@@ -86,7 +84,7 @@ returns-clause-told c =
     c.correct_ceiling-self.ensures.told))
     (tells-same 1 _ gone a b (gave-up-same (world_of old) (world_of a) t (Some m) awaits) c.correct_wait.ensures.told))
     (tells-same 1 _ freed b g
-    (ap (λ so. option_map_or (λ o. did (Released (cond so (Some t) None)) o m) c.mutex-owner.result.owner []) is
+    (ap (λ so. option_map_or (λ o. did (Released m (cond so (Some t) None)) o) c.mutex-owner.result.owner []) is
     ∙ ap (λ (z : CourseMutex). option_map_or (λ o. released_told (world_of old) o m (Some t)) z.owner [])
     c.mutex-owner.ensures)
     (tells-behind 1 _ b _ g refl c.free.ensures.told)))
@@ -110,9 +108,8 @@ returns-clause-depths c below k =
     (λ j other. c.free.ensures.depths j other ∙ c.correct_wait.ensures.depths j ∙ c.correct_ceiling-self.ensures.depths j
     ∙ c.forget_own.ensures.depths j) k
     ∙ sym (ap (λ is. cond is (depth_again c.args.sources.now.ids (depths_of old) m) once k)
-    (neither _ _ (ne_eqb m 0 (λ e. omega (arith, e, c.if-mutex-eq0.false)))
     (not-that _ _ _ (ap (λ z. z.owner) c.mutex-owner.ensures)
-    (sym c.eq.ensures ∙ c.if-eq.false))))
+    (sym c.eq.ensures ∙ c.if-eq.false)))
 
 pub returns-clause-sections : goal.returns-clause-sections
 returns-clause-sections c below =
@@ -177,6 +174,5 @@ returns-clause-details c lt below =
     ∙ ap (freed c.mutex-owner.result.owner m) (λ i. record (same i) { is_contradiction = is i })
     ∙ ap (λ (z : CourseMutex). freed z.owner m marked) c.mutex-owner.ensures
     )
-    ∙ sym (if-not _ _ _ (neither _ _ (ne_eqb m 0 (λ e. omega (arith, e, c.if-mutex-eq0.false)))
-    (not-that _ _ _ (ap (λ z. z.owner) c.mutex-owner.ensures)
-    (sym c.eq.ensures ∙ c.if-eq.false))))
+    ∙ sym (if-not _ _ _ (not-that _ _ _ (ap (λ z. z.owner) c.mutex-owner.ensures)
+    (sym c.eq.ensures ∙ c.if-eq.false)))

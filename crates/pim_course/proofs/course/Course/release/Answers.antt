@@ -1,5 +1,5 @@
 use Rattle.std.proofs.Common.{ℕ, ◌<◌, ◌-◌, length, ◌≡◌, ◌++◌, cond, Some, None, refl, eq-eqb, ap, sym, ◌∙◌, arith}
-use Rattle.std.proofs.lemmas.Bool.{le-ltb, lt-ltb, ne_eqb}
+use Rattle.std.proofs.lemmas.Bool.{le-ltb, lt-ltb}
 use Rattle.pim_facts.specs.declared.fact.What.TheVariants.{GaveUp, Released}
 use Rattle.pim_course.specs.NextOwners.{is_that}
 use Rattle.pim_course.specs.Told.{depths_of, did, gave_up_told, heir_in}
@@ -32,18 +32,17 @@ returns-clause-told c =
     let old : Course = c.args.self.now in
     let b : Course = c.correct_wait.new.self in
     let new : Course = c.hand_over.new.self in
-    let gone : World = after (world_of old) GaveUp t m in
+    let gone : World = after (world_of old) (GaveUp m) t in
     let n = c.next_owner-next.result in
     let heir : heir_in (world_of b) m n ≡ heir_in gone m n =
     heir-same (world_of b) gone m n
     (left-by (world_of old) (world_of b) t c.correct_wait.ensures.awaits c.correct_wait.ensures.others) in
     tells-same 2 _ _ old new
-    (ap (λ next. gave_up_told (world_of old) t None ++ did (Released next) t m) (heir
+    (ap (λ next. gave_up_told (world_of old) t None ++ did (Released m next) t) (heir
     ∙ ap (heir_in gone m) c.next_owner-next.ensures)
     ∙ sym (if-not _ _ _ (none-of _ _ _
-    (neither _ _ (ne_eqb m 0 (λ e. omega (arith, e, c.if-mutex-eq0.false)))
     (not-true _ (so-that _ _ _ (ap (λ z. z.owner) c.mutex-is.ensures)
-    (grind (arith, c.ne.ensures, c.if-ne.false, c.if-ne.ensures)))))
+    (grind (arith, c.ne.ensures, c.if-ne.false, c.if-ne.ensures))))
     (sym c.is_refused.ensures ∙ c.if-is_refused.false)
     (le-ltb 1 (mutex_in old m).depth (omega (arith, ap (λ z. z.depth) c.mutex-is.ensures))))))
     (tells-then 1 1 _ _ old b new c.correct_wait.ensures.told c.hand_over.ensures.told)
@@ -63,8 +62,7 @@ returns-clause-depths c k =
     c.hand_over.ensures.depths (omega (arith, c.correct_wait.ensures.size.mutexes)) k
     ∙ depth-put m 0 (depths_of old) (depths_of b) (λ j _. c.correct_wait.ensures.depths j) k
     ∙ ap (λ v. but_for m v (depths_of old) k) less
-    ∙ sym (ap (λ is. cond is (depths_of old) freed k) (none-of _ _ _
-    (ne_eqb m 0 (λ e. omega (arith, e, c.if-mutex-eq0.false)))
+    ∙ sym (ap (λ is. cond is (depths_of old) freed k) (neither _ _
     (not-true _ (ap (λ o. is_that o t) owner ∙ eq-eqb t t refl))
     (sym c.is_refused.ensures ∙ c.if-is_refused.false)))
 
@@ -100,8 +98,7 @@ returns-clause-details c =
     c.hand_over.ensures.details (omega (arith, c.correct_wait.ensures.size.mutexes))
     ∙ ap (released t m) c.correct_wait.ensures.details
     ∙ sym (if-not _ _ _ (none-of _ _ _
-    (neither _ _ (ne_eqb m 0 (λ e. omega (arith, e, c.if-mutex-eq0.false)))
-    (not-true _ (ap (λ o. is_that o t) owner ∙ eq-eqb t t refl)))
+    (not-true _ (ap (λ o. is_that o t) owner ∙ eq-eqb t t refl))
     (sym c.is_refused.ensures ∙ c.if-is_refused.false)
     (le-ltb 1 (mutex_in old m).depth (omega (arith, ap (λ z. z.depth) c.mutex-is.ensures)))))
 

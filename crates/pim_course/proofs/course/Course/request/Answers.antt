@@ -1,11 +1,10 @@
-use Rattle.std.proofs.lemmas.Bool.{ne_eqb}
 use Rattle.std.proofs.Common.{◌≡◌, ℕ, Option, Some, None, inl, inr, ap, sym, subst, ◌∙◌, arith}
 use Rattle.pim_facts.specs.declared.fact.What.TheVariants.{Waits}
 use Rattle.pim_course.specs.Told.{ceiling_told, gave_up_told}
 use Rattle.pim_course.specs.Going.{IsStill}
 use Rattle.pim_course.specs.World.{CanHappen, World, world_of}
 use Rattle.pim_course.specs.declared.course.Course.{Course}
-use Rattle.pim_course.proofs.Telling.{gave-up-same, if-not, isnt-that, neither, none-of, not-that, tells-behind, tells-same}
+use Rattle.pim_course.proofs.Telling.{gave-up-same, if-not, isnt-that, neither, not-that, tells-behind, tells-same}
 use Rattle.pim_course.proofs.Telling.{tells-then}
 use Rattle.pim_course.proofs.Leading.{goes-still, goes-then}
 use Rattle.pim_course.proofs.Numbering.{numbers-none, numbers-then}
@@ -28,7 +27,7 @@ returns-clause-goes c lt below =
     elim c.correct_wait.ensures.awaits [
       | inl none ↦ none
       | inr it ↦
-          absurd (isnt-that _ _ (sym c.eq-else-mutex-eq0.ensures ∙ c.if-eq-2.false)
+          absurd (isnt-that _ _ (sym c.eq-2.ensures ∙ c.if-eq-2.false)
           (ap (λ y. y.awaits) c.thread.ensures ∙ sym (ap (λ f. f t) c.correct_ceiling.ensures.awaits) ∙ it.1))
     ] in
     let owner : (world_of b).owner c.args.mutex ≡ (world_of c.args.self.now).owner c.args.mutex =
@@ -43,7 +42,7 @@ returns-clause-goes c lt below =
       c.correct_wait.ensures.size.threads,
       c.ask_at.ensures.size.threads,
     ))
-    (subst (λ w. CanHappen w Waits t c.args.mutex) (sym still.world) (
+    (subst (λ w. CanHappen w (Waits c.args.mutex) t) (sym still.world) (
       awaits,
       λ e. isnt-that _ _ (sym c.eq.ensures ∙ c.if-eq.false)
           (ap (λ z. z.owner) c.mutex-is.ensures ∙ sym owner ∙ e),
@@ -61,10 +60,10 @@ returns-clause-told c =
     let said = ceiling_told c.args.sources.now (world_of old) t m c.args.said.now in
     let gone = gave_up_told (world_of old) t (Some m) in
     tells-same 3 _ _ old new
-    (sym (if-not _ _ _ (none-of _ _ _ (ne_eqb m 0 (λ e. omega (arith, e, c.if-mutex-eq0.false)))
+    (sym (if-not _ _ _ (neither _ _
     (not-that _ _ _ (ap (λ z. z.owner) c.mutex-is.ensures) (sym c.eq.ensures ∙ c.if-eq.false))
     (not-that _ _ _ (ap (λ y. y.awaits) c.thread.ensures)
-    (sym c.eq-else-mutex-eq0.ensures ∙ c.if-eq-2.false)))))
+    (sym c.eq-2.ensures ∙ c.if-eq-2.false)))))
     (tells-then 2 1 _ _ old b new
     (tells-then 1 1 said gone old a b c.correct_ceiling.ensures.told
     (tells-same 1 _ gone a b (gave-up-same (world_of old) (world_of a) t (Some m) c.correct_ceiling.ensures.awaits)
@@ -133,6 +132,5 @@ returns-clause-details c lt below =
     c.mutex-is.ensures)
     ∙ sym (if-not _ _ _ (not-that _ _ _ (ap (λ z. z.owner) c.mutex-is.ensures)
     (sym c.eq.ensures ∙ c.if-eq.false))
-    ∙ if-not _ _ _ (neither _ _ (ne_eqb m 0 (λ e. omega (arith, e, c.if-mutex-eq0.false)))
-    (not-that _ _ _ (ap (λ y. y.awaits) c.thread.ensures)
-    (sym c.eq-else-mutex-eq0.ensures ∙ c.if-eq-2.false))))
+    ∙ if-not _ _ _ (not-that _ _ _ (ap (λ y. y.awaits) c.thread.ensures)
+    (sym c.eq-2.ensures ∙ c.if-eq-2.false)))

@@ -19,8 +19,8 @@ pub returns-clause-goes : goal.returns-clause-goes
 returns-clause-goes c lt below possible =
     let s : Course = c.section_of-section.new.self in
     let still : IsStill c.args.self.now s = c.section_of-section.ensures.still in
-    let can : CanHappen (world_of s) Granted c.args.record.now.thread c.args.mutex =
-    subst (λ w. CanHappen w Granted c.args.record.now.thread c.args.mutex) (sym still.world) possible in
+    let can : CanHappen (world_of s) (Granted c.args.mutex) c.args.record.now.thread =
+    subst (λ w. CanHappen w (Granted c.args.mutex) c.args.record.now.thread) (sym still.world) possible in
     let items : c.put_thread.new.self.mutexes.items ≡ s.mutexes.items =
     ap (λ d. d.mutexes.items) c.put_thread.ensures.rest in
     let ceiling : c.if-is_some.is.ceiling ≡ (mutex_in s c.args.mutex).ceiling =

@@ -23,7 +23,7 @@ returns-clause-goes c lt possible =
     (goes-added s c.put_mutex.new.self _ _ _ c.fact.ensures
     (ap (λ d. d.shown) c.put_mutex.ensures.rest ∙ ap (λ d. d.shown) c.put_thread.ensures.rest)
     c.add.ensures.shown c.add.ensures.full
-    (subst (λ w. CanHappen w Waits c.args.thread c.args.mutex) (sym still.world) possible)
+    (subst (λ w. CanHappen w (Waits c.args.mutex) c.args.thread) (sym still.world) possible)
     (world-awaits s c.put_mutex.new.self c.args.thread _ c.args.mutex _ (Some c.args.mutex)
     (ap (λ d. d.threads.items) c.put_mutex.ensures.rest ∙ c.put_thread.ensures.threads)
     (put-in c.put_thread.new.self.mutexes.items s.mutexes.items _ _ _ items c.put_mutex.ensures.mutexes)

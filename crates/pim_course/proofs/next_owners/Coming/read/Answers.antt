@@ -14,11 +14,11 @@ returns-clause-calls c = λ behind room knows timed those calls.
     c.begin_behind.ensures.beginning _ c.of_record-mutex.ensures c.learn.ensures.began c.learn.ensures.beginning
 
 pub returns-clause-asked : goal.returns-clause-asked
-returns-clause-asked c = λ before behind room knows calls those named.
+returns-clause-asked c = λ before behind room knows calls those.
     let ids = c.args.ids.now in
     let r = c.args.record.now in
     let is = c.of_record-mutex.ensures in
-    subst (λ m. IsAsked ids m r before behind c.kept-kept.result) is
-    (c.kept-kept.ensures.asked before behind room knows calls (subst (HasThoseOf ids r) (sym is) those)
-    (subst (λ m. IfSome (named_task r.event) (λ task. c.args.named ≡ named_owner ids m r.process (last_begun task before)))
-    (sym is) named))
+    subst (λ id. IfSome id (λ m. IfSome (named_task r.event)
+    (λ task. c.args.named ≡ named_owner ids m r.process (last_begun task before)) →
+    IsAsked ids m r before behind c.kept-kept.result)) is
+    (c.kept-kept.ensures.asked before behind room knows calls (subst (HasThoseOf ids r) (sym is) those))

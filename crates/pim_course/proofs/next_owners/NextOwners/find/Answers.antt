@@ -1,11 +1,11 @@
 use Rattle.std.proofs.Common.{◌≡◌, subst, sym, ◌∙◌, arith}
 use Rattle.pim_facts.specs.Covering.{HasThoseOf}
-use Rattle.pim_facts.specs.Levels.{id_of}
-use Rattle.pim_facts.specs.Naming.{IsNamed, last_begun, named_of, named_task}
+use Rattle.pim_facts.specs.Levels.{id_in, id_of}
+use Rattle.pim_facts.specs.Naming.{IsNamed, last_begun, named_task}
 use Rattle.std.specs.Prelude.{IfSome}
 use Rattle.pim_course.specs.AskedOwners.{IsAsked}
 use Rattle.pim_course.specs.NextOwners.{IsKept}
-use Rattle.pim_course.proofs.AskedOwning.{asked-lacks, asked-step, named-last, timed-of}
+use Rattle.pim_course.proofs.AskedOwning.{asked-lacks, asked-named, asked-step, timed-of}
 use Rattle.pim_course.proofs.next_owners.NextOwners.find.Goals as goal
 
 pub returns-in_default : goal.returns-in_default
@@ -29,17 +29,17 @@ returns c = λ covers has.
       knows = c.read-kept.ensures.knows has.found.behind has.found.knows;
       room = c.read-kept.ensures.room has.found.room;
       as_long = c.keep.ensures.room;
-      is = subst (λ n. IsKept ids (id_of ids n) r.thread r.event has.found.behind c.read-kept.result) number-is
-          (c.read-kept.ensures.kept has.found.behind has.found.room has.found.knows has.found.covers so);
+      is = subst (λ n. IfSome (id_of ids n) (λ m. IsKept ids m r.thread r.event has.found.behind c.read-kept.result))
+          number-is (c.read-kept.ensures.kept has.found.behind has.found.room has.found.knows has.found.covers so);
       same = c.keep.ensures.kept (omega (arith, has.found.kept, numbered.below));
       rest = c.keep.ensures.rest;
     })
     (c.read-kept.ensures.calls has.found.behind has.found.room has.found.knows
     (timed-of c.args.log.now slot r is, has.timed) so has.calls)
     named
-    (subst (λ n. IsAsked ids (id_of ids n) r named.before has.found.behind c.read-kept.result) number-is
-    (c.read-kept.ensures.asked named.before has.found.behind has.found.room has.found.knows has.calls so
-    (named-last ids (id_of ids r.number) r.process (named_task r.event) c.named-named.result
-    (named_of c.args.self.now.kept.items r.number) named.before c.named-named.ensures
-    (subst (λ n. IfSome (named_task r.event) (λ task. named_of c.args.self.now.kept.items n ≡ last_begun task named.before))
-    (sym number-is) named.is))))
+    (subst (λ n. IfSome (id_of ids n) (λ m. IsAsked ids m r named.before has.found.behind c.read-kept.result)) number-is
+    (asked-named ids (id_of ids r.number) r named.before has.found.behind c.read-kept.result c.named-named.result
+    (id_in c.args.self.now.kept.items r.number) c.named-named.ensures
+    (subst (λ n. IfSome (named_task r.event) (λ task. id_in c.args.self.now.kept.items n ≡ last_begun task named.before))
+    (sym number-is) named.is)
+    (c.read-kept.ensures.asked named.before has.found.behind has.found.room has.found.knows has.calls so)))

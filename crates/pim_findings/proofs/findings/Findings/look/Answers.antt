@@ -45,8 +45,8 @@ returns-in-Released-clause-owns c = λ k facts o.
       course = c.args.course.now;
       sources = c.args.sources.now;
     } in
-    owns-released k facts m c.args.self.now c.release.new.self (ap is_grant c.in-Released.is)
-    (ap is_release c.in-Released.is)
+    owns-released k facts m c.in-Released.mutex c.args.self.now c.release.new.self
+    (λ one. ap (is_grant one) c.in-Released.is) (λ one. ap (is_release one) c.in-Released.is)
     c.release.ensures.len c.release.ensures.since c.release.ensures.longest o
 
 pub returns-in-GaveUp-clause-hand_overs : goal.returns-in-GaveUp-clause-hand_overs
@@ -58,8 +58,8 @@ returns-in-GaveUp-clause-hand_overs c =
       sources = c.args.sources.now;
     } in
     ok-always c.end_wait.result (λ n k facts lt o.
-    handed-gave_up n k facts m c.args.self.now c.end_wait.new.self c.in-GaveUp.is c.end_wait.ensures.mutexes
-    c.end_wait.ensures.len
+    handed-gave_up n k facts m c.in-GaveUp.field-0 c.args.self.now c.end_wait.new.self c.in-GaveUp.is
+    c.end_wait.ensures.mutexes c.end_wait.ensures.len
     c.end_wait.ensures.queued c.end_wait.ensures.begun c.end_wait.ensures.queue c.end_wait.ensures.protects o)
 
 pub returns-in_ok-own-in-Granted-clause-hand_overs : goal.returns-in_ok-own-in-Granted-clause-hand_overs
@@ -72,7 +72,7 @@ returns-in_ok-own-in-Granted-clause-hand_overs c =
     } in
     let end = c.end_wait-in-Granted.ensures in
     ok-always c.end_wait-in-Granted.result (λ n k facts lt o.
-    handed-granted n k facts m c.args.self.now c.own.new.self c.end_wait-in-Granted.new.self
+    handed-granted n k facts m c.in-Granted.mutex c.args.self.now c.own.new.self c.end_wait-in-Granted.new.self
     c.in-Granted.is c.own.ensures.len
     c.own.ensures.waiting c.in_ok-own-in-Granted.ensures.protects c.own.ensures.left c.own.ensures.hand_overs
     c.own.ensures.others
@@ -87,8 +87,8 @@ returns-in-Released-clause-hand_overs c = λ n k facts lt o.
       sources = c.args.sources.now;
     } in
     let r = c.release.ensures in
-    handed-released n k facts m c.args.self.now c.release.new.self (ap is_grant c.in-Released.is)
-    (ap is_release c.in-Released.is)
+    handed-released n k facts m c.in-Released.mutex c.args.self.now c.release.new.self
+    (λ one. ap (is_grant one) c.in-Released.is) (λ one. ap (is_release one) c.in-Released.is)
     (ap begins_wait c.in-Released.is) (λ wait. ap (λ what. after_own m what wait) c.in-Released.is)
     r.len r.waiting r.places r.protects r.left r.others r.hand_overs o
 
@@ -101,8 +101,8 @@ returns-in-Waits-clause-hand_overs c =
       sources = c.args.sources.now;
     } in
     let b = c.begin.ensures in
-    handed-begins c.begin.result m c.args.self.now (record c.args.self.now { waiting = c.begin.new.self }) c.begun.result
-    c.begun.ensures c.in-Waits.is
+    handed-begins c.begin.result m c.in-Waits.mutex c.args.self.now
+    (record c.args.self.now { waiting = c.begin.new.self }) c.begun.result c.begun.ensures c.in-Waits.is
     refl b.len b.queued b.begun b.queue b.protects
 
 pub returns-in-Level-clause-hand_overs : goal.returns-in-Level-clause-hand_overs
@@ -113,7 +113,8 @@ returns-in-Level-clause-hand_overs c = λ n k facts lt o.
       course = c.args.course.now;
       sources = c.args.sources.now;
     } in
-    handed-same n k facts m c.args.self.now (ap is_grant c.in-Level.is) (ap is_release c.in-Level.is)
+    handed-same n k facts m c.args.self.now (λ one. ap (is_grant one) c.in-Level.is)
+    (λ one. ap (is_release one) c.in-Level.is)
     (ap begins_wait c.in-Level.is)
     (λ wait. ap (λ what. after_own m what wait) c.in-Level.is) o
 
@@ -125,7 +126,8 @@ returns-in-Ceiling-clause-hand_overs c = λ n k facts lt o.
       course = c.args.course.now;
       sources = c.args.sources.now;
     } in
-    handed-same n k facts m c.args.self.now (ap is_grant c.in-Ceiling.is) (ap is_release c.in-Ceiling.is)
+    handed-same n k facts m c.args.self.now (λ one. ap (is_grant one) c.in-Ceiling.is)
+    (λ one. ap (is_release one) c.in-Ceiling.is)
     (ap begins_wait c.in-Ceiling.is)
     (λ wait. ap (λ what. after_own m what wait) c.in-Ceiling.is) o
 
@@ -137,8 +139,8 @@ returns-in-Waits-clause-waits c =
       course = c.args.course.now;
       sources = c.args.sources.now;
     } in
-    finds-begins c.begin.result m c.args.self.now (record c.args.self.now { waiting = c.begin.new.self }) c.begun.result
-    c.begun.ensures c.in-Waits.is
+    finds-begins c.begin.result m c.in-Waits.mutex c.args.self.now
+    (record c.args.self.now { waiting = c.begin.new.self }) c.begun.result c.begun.ensures c.in-Waits.is
     refl c.begin.ensures.len c.begin.ensures.waits
 
 pub returns-in-Waits-clause-owns : goal.returns-in-Waits-clause-owns
@@ -151,7 +153,7 @@ returns-in-Waits-clause-owns c =
     } in
     ok-always c.begin.result (λ k facts o. owns-still k facts m c.args.self.now
     (record c.args.self.now { waiting = c.begin.new.self })
-    (ap is_grant c.in-Waits.is) (ap is_release c.in-Waits.is) refl o)
+    (λ one. ap (is_grant one) c.in-Waits.is) (λ one. ap (is_release one) c.in-Waits.is) refl o)
 
 pub returns-in_ok-own-in-Granted-clause-owns : goal.returns-in_ok-own-in-Granted-clause-owns
 returns-in_ok-own-in-Granted-clause-owns c =
@@ -162,6 +164,6 @@ returns-in_ok-own-in-Granted-clause-owns c =
       sources = c.args.sources.now;
     } in
     ok-always c.end_wait-in-Granted.result (λ k facts o.
-    owns-granted k facts m c.args.self.now c.own.new.self c.end_wait-in-Granted.new.self (ap is_grant c.in-Granted.is)
-    (ap is_release c.in-Granted.is)
+    owns-granted k facts m c.in-Granted.mutex c.args.self.now c.own.new.self c.end_wait-in-Granted.new.self
+    (λ one. ap (is_grant one) c.in-Granted.is) (λ one. ap (is_release one) c.in-Granted.is)
     c.own.ensures.len c.own.ensures.since c.own.ensures.longest c.end_wait-in-Granted.ensures.mutexes o)

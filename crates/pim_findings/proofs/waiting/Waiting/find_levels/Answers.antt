@@ -15,20 +15,20 @@ pub loop-place-init : goal.loop-place-init
 loop-place-init c = record {
   rest = c.forget_levels.ensures.rest;
   len = c.forget_levels.ensures.len;
-  sound = λ k. sound-lowest c.args.sources.now c.args.course.now c.args.fact.now c.args.self.now c.forget_levels.new.self k
-      c.forget_levels.ensures.lowest;
+  sound = λ k. sound-lowest c.args.sources.now c.args.course.now c.args.release.now c.args.self.now
+      c.forget_levels.new.self k c.forget_levels.ensures.lowest;
   levels = λ k j d lt. absurd (omega arith);
 }
 
 pub loop-place-preserved : goal.loop-place-preserved
 loop-place-preserved c =
-    let before = before_at c.args.sources.now c.args.course.now c.args.fact.now c.args.self.now in
+    let before = before_at c.args.sources.now c.args.course.now c.args.release.now c.args.self.now in
     let wait = c.index.result.now in
     let level_is : c.thread-level.result.level ≡ before.world.level wait.thread =
     ap (λ (thread : CourseThread). thread.level) c.thread-level.ensures in
     let raised = λ (k : KeepsQueue c.args.self.now).
-    level-raised c.args.sources.now c.args.course.now c.args.fact.now c.args.self.now c.loop-place.self c.raise_from.new.self
-    wait.thread c.thread-level.result.level c.loop-place.invariant.rest c.loop-place.invariant.len k
+    level-raised c.args.sources.now c.args.course.now c.args.release.now c.args.self.now c.loop-place.self
+    c.raise_from.new.self wait.thread c.thread-level.result.level c.loop-place.invariant.rest c.loop-place.invariant.len k
     (subst (Gets before wait.thread) (sym level_is) own) (c.loop-place.invariant.sound k) c.raise_from.ensures.levels in
     record {
       rest = c.raise_from.ensures.rest ∙ ap (λ (w : Waiting). record w { effective = c.raise_from.new.self.effective })
@@ -76,7 +76,7 @@ loop-protected-init c = record {
   len = c.loop-place.invariant.len;
   sound = c.loop-place.invariant.sound;
   levels = λ k wait h.
-      let before = before_at c.args.sources.now c.args.course.now c.args.fact.now c.args.self.now in
+      let before = before_at c.args.sources.now c.args.course.now c.args.release.now c.args.self.now in
       let whole : h.0 < c.loop-place.place =
       omega (
         arith,
@@ -92,7 +92,7 @@ loop-protected-init c = record {
 
 pub loop-protected-preserved : goal.loop-protected-preserved
 loop-protected-preserved c =
-    let before = before_at c.args.sources.now c.args.course.now c.args.fact.now c.args.self.now in
+    let before = before_at c.args.sources.now c.args.course.now c.args.release.now c.args.self.now in
     let mutex = c.index-mutex.result.now in
     let mutexes = c.args.self.now.protecting.items in
     let same : c.loop-protected.self.protecting.items ≡ mutexes =
@@ -110,7 +110,7 @@ loop-protected-preserved c =
     ∙ ap (λ l. get_or l c.loop-protected.protected 0) same in
     let inside : c.loop-protected.protected < length mutexes = omega (arith, ap length same) in
     let raised = λ (k : KeepsQueue c.args.self.now).
-    ceiling-raised c.args.sources.now c.args.course.now c.args.fact.now c.args.self.now c.loop-protected.self
+    ceiling-raised c.args.sources.now c.args.course.now c.args.release.now c.args.self.now c.loop-protected.self
     c.raise_owner.new.self mutex
     c.loop-protected.invariant.rest c.loop-protected.invariant.len k
     (list_any_at (λ other. other == mutex) mutexes c.loop-protected.protected 0 inside (eq-eqb _ _ (sym is)))
@@ -149,6 +149,6 @@ returns-clause-levels c = λ k.
       c.len-protected-end.ensures,
       ap (λ (w : Waiting). length w.protecting.items) c.loop-place.invariant.rest,
     ) in
-    all-raised c.args.sources.now c.args.course.now c.args.fact.now c.args.self.now c.loop-protected.self
+    all-raised c.args.sources.now c.args.course.now c.args.release.now c.args.self.now c.loop-protected.self
     c.loop-protected.protected k
     (c.loop-protected.invariant.sound k) (c.loop-protected.invariant.levels k) whole (c.loop-protected.invariant.ceilings k)

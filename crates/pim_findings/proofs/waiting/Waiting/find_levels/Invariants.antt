@@ -8,9 +8,9 @@ abbrev pub invariant-loop-place : goal.invariant-loop-place
 invariant-loop-place l = record {
   rest : l.self ≡ record l.fn.self { effective = l.self.effective };
   len : length l.self.effective.items ≡ length l.fn.self.effective.items;
-  sound : KeepsQueue l.fn.self → AreSound (before_at l.fn.sources l.fn.course l.fn.fact l.fn.self) l.self;
+  sound : KeepsQueue l.fn.self → AreSound (before_at l.fn.sources l.fn.course l.fn.release l.fn.self) l.self;
   levels : KeepsQueue l.fn.self → (k : ℕ) (d : Queued) → k < l.place →
-      (before_at l.fn.sources l.fn.course l.fn.fact l.fn.self).world.level (get_or l.fn.self.queue.items k d).thread ≤
+      (before_at l.fn.sources l.fn.course l.fn.release l.fn.self).world.level (get_or l.fn.self.queue.items k d).thread ≤
       level_at l.self (get_or l.fn.self.queue.items k d).thread;
 }
 
@@ -19,12 +19,13 @@ abbrev pub invariant-loop-protected : goal.invariant-loop-protected
 invariant-loop-protected l = record {
   rest : l.self ≡ record l.fn.self { effective = l.self.effective };
   len : length l.self.effective.items ≡ length l.fn.self.effective.items;
-  sound : KeepsQueue l.fn.self → AreSound (before_at l.fn.sources l.fn.course l.fn.fact l.fn.self) l.self;
+  sound : KeepsQueue l.fn.self → AreSound (before_at l.fn.sources l.fn.course l.fn.release l.fn.self) l.self;
   levels : KeepsQueue l.fn.self → (wait : Queued) → Contains l.fn.self.queue.items wait →
-      (before_at l.fn.sources l.fn.course l.fn.fact l.fn.self).world.level wait.thread ≤ level_at l.self wait.thread;
+      (before_at l.fn.sources l.fn.course l.fn.release l.fn.self).world.level wait.thread ≤ level_at l.self wait.thread;
   ceilings : KeepsQueue l.fn.self → (k : ℕ) → k < l.protected → (t : ℕ) →
-      (before_at l.fn.sources l.fn.course l.fn.fact l.fn.self).world.owner (get_or l.fn.self.protecting.items k 0) ≡ Some t →
+      (before_at l.fn.sources l.fn.course l.fn.release l.fn.self).world.owner (get_or l.fn.self.protecting.items k 0)
+      ≡ Some t →
       t < length l.fn.self.effective.items →
-      (before_at l.fn.sources l.fn.course l.fn.fact l.fn.self).world.ceiling
+      (before_at l.fn.sources l.fn.course l.fn.release l.fn.self).world.ceiling
       (get_or l.fn.self.protecting.items k 0) ≤ level_at l.self t;
 }

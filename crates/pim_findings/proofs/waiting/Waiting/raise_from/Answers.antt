@@ -11,7 +11,7 @@ pub loop-hop-init : goal.loop-hop-init
 loop-hop-init c = record {
   rest = refl;
   len = refl;
-  levels = λ g s. raising-begun (before_at c.args.sources.now c.args.course.now c.args.fact.now c.args.self.now)
+  levels = λ g s. raising-begun (before_at c.args.sources.now c.args.course.now c.args.release.now c.args.self.now)
       c.args.self.now c.args.first c.args.level g s;
 }
 
@@ -27,18 +27,18 @@ loop-hop-preserved c =
           c.loop-hop.invariant.rest;
       len = c.raise.ensures.len ∙ c.loop-hop.invariant.len;
       levels = λ g s.
-          raising-more (before_at c.args.sources.now c.args.course.now c.args.fact.now c.args.self.now) c.args.self.now
+          raising-more (before_at c.args.sources.now c.args.course.now c.args.release.now c.args.self.now) c.args.self.now
           c.loop-hop.self c.raise.new.self
           c.args.first c.loop-hop.thread c.args.level c.loop-hop.hop lower.0 lower.1 levels
           (c.loop-hop.invariant.levels g s) c.in-Some.heir
           (sym (c.in-Some.ensures ∙ ap (λ b. heir_by b c.loop-hop.thread)
-          (ap (before_at c.args.sources.now c.args.course.now c.args.fact.now) c.raise.ensures.rest
-          ∙ ap (before_at c.args.sources.now c.args.course.now c.args.fact.now) c.loop-hop.invariant.rest)));
+          (ap (before_at c.args.sources.now c.args.course.now c.args.release.now) c.raise.ensures.rest
+          ∙ ap (before_at c.args.sources.now c.args.course.now c.args.release.now) c.loop-hop.invariant.rest)));
     }
 
 pub returns-then-not-raise-clause-levels : goal.returns-then-not-raise-clause-levels
 returns-then-not-raise-clause-levels c = λ k g s.
-    let before = before_at c.args.sources.now c.args.course.now c.args.fact.now c.args.self.now in
+    let before = before_at c.args.sources.now c.args.course.now c.args.release.now c.args.self.now in
     let same : c.raise.new.self.effective.items ≡ c.loop-hop.self.effective.items =
     c.raise.ensures.levels
     ∙ ap (λ b. cond b (set c.loop-hop.self.effective.items c.loop-hop.thread c.args.level)
@@ -61,16 +61,16 @@ returns-in-None-clause-levels c = λ k g s.
     c.raise.ensures.levels
     ∙ ap (λ b. cond b (set c.loop-hop.self.effective.items c.loop-hop.thread c.args.level)
     c.loop-hop.self.effective.items) c.if-not-raise.false in
-    raised-last (before_at c.args.sources.now c.args.course.now c.args.fact.now c.args.self.now) c.args.self.now
+    raised-last (before_at c.args.sources.now c.args.course.now c.args.release.now c.args.self.now) c.args.self.now
     c.loop-hop.self c.raise.new.self
     c.args.first c.loop-hop.thread c.args.level c.loop-hop.hop lower.0 lower.1 levels (c.loop-hop.invariant.levels g s)
     (sym (c.in-None.ensures ∙ ap (λ b. heir_by b c.loop-hop.thread)
-    (ap (before_at c.args.sources.now c.args.course.now c.args.fact.now) c.raise.ensures.rest
-    ∙ ap (before_at c.args.sources.now c.args.course.now c.args.fact.now) c.loop-hop.invariant.rest)))
+    (ap (before_at c.args.sources.now c.args.course.now c.args.release.now) c.raise.ensures.rest
+    ∙ ap (before_at c.args.sources.now c.args.course.now c.args.release.now) c.loop-hop.invariant.rest)))
 
 pub returns-clause-levels : goal.returns-clause-levels
 returns-clause-levels c = λ k g s.
-    let before = before_at c.args.sources.now c.args.course.now c.args.fact.now c.args.self.now in
+    let before = before_at c.args.sources.now c.args.course.now c.args.release.now c.args.self.now in
     let r = c.loop-hop.invariant.levels g s in
     let all : length c.loop-hop.self.effective.items ≤ c.loop-hop.hop =
     omega (arith, c.loop-hop.invariant.len, k.places, c.len-hop-end.ensures, c.loop-hop-test.false) in

@@ -7,7 +7,7 @@ use Rattle.pim_findings.proofs.waiting.Waiting.raise_owner.Goals as goal
 
 pub returns-in-Some-clause-levels : goal.returns-in-Some-clause-levels
 returns-in-Some-clause-levels c = λ k protects sound.
-    let before = before_at c.args.sources.now c.args.course.now c.args.fact.now c.args.self.now in
+    let before = before_at c.args.sources.now c.args.course.now c.args.release.now c.args.self.now in
     let is = ap (λ (mutex : CourseMutex). mutex.ceiling) c.mutex-ceiling.ensures in
     subst (λ o. MatchOption o (c.raise_from.new.self ≡ c.args.self.now)
     (λ owner. IsRaised before c.args.self.now c.raise_from.new.self owner (mutex_in c.args.course.now c.args.mutex).ceiling))
