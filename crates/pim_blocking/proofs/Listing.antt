@@ -9,18 +9,19 @@ use Rattle.pim_blocking.specs.declared.section.Section.{Section}
 use Rattle.pim_blocking.specs.declared.bounds.Bound.{Bound}
 use Rattle.pim_blocking.specs.declared.bounds.TheConstants.{BOUNDS}
 use Rattle.pim_blocking.specs.Blocked.{is_real_time}
-use Rattle.pim_blocking.specs.Listed.{AreListed, AreOfThreads, IsBoundOf, IsGreatestFirst, and_thread, but_thread, is_blocked, is_greater, no_thread}
+use Rattle.pim_blocking.specs.Ordered.{IsOrderedBy}
+use Rattle.pim_blocking.specs.Listed.{AreListed, AreOfThreads, IsBoundOf, and_thread, but_thread, is_blocked, is_greater, no_thread}
 use Rattle.pim_blocking.proofs.Bounding.{bound-inner}
 use Rattle.pim_blocking.proofs.Placing.{first-placed, placed}
 use Rattle.pim_blocking.proofs.Ranking.{placed-permutes, placed-sorted, placed-stable}
 
 -- the greatest first, with one bound more
-greatest-more : (bounds ordered : List Bound) (bound : Bound) → IsGreatestFirst bounds ordered →
-    IsGreatestFirst (bounds ++ bound ∷ []) (placed (λ b. b.under_inherit) bound ordered)
+greatest-more : (bounds ordered : List Bound) (bound : Bound) → IsOrderedBy is_greater bounds ordered →
+    IsOrderedBy is_greater (bounds ++ bound ∷ []) (placed (λ b. b.under_inherit) bound ordered)
 greatest-more bounds ordered bound o = record {
   these = placed-permutes (λ b. b.under_inherit) bound bounds ordered o.these;
-  greatest_first = placed-sorted (λ b. b.under_inherit) bound ordered o.greatest_first;
-  in_order = placed-stable (λ b. b.under_inherit) bound bounds ordered o.greatest_first o.in_order;
+  sorted = placed-sorted (λ b. b.under_inherit) bound ordered o.sorted;
+  in_order = placed-stable (λ b. b.under_inherit) bound bounds ordered o.sorted o.in_order;
 }
 
 -- no thread yet
@@ -33,7 +34,7 @@ listed-none n k highest longest seen inner bounds none = record {
   ordered = [];
   greatest_first = record {
     these = IsPermutation-refl [];
-    greatest_first = λ i d from inside. absurd (omega arith);
+    sorted = λ i d from inside. absurd (omega arith);
     in_order = λ x. refl;
   };
   listed = none;
@@ -64,7 +65,8 @@ listed-more n k highest longest seen inner t old new bound real is kept l =
       all = l.all ++ bound ∷ [];
       each = and_thread real is l.each;
       ordered = placed (λ b. b.under_inherit) bound l.ordered;
-      greatest_first = subst (λ bs. IsGreatestFirst bs (placed (λ b. b.under_inherit) bound l.ordered)) (sym (more true e))
+      greatest_first = subst (λ bs. IsOrderedBy is_greater bs (placed (λ b. b.under_inherit) bound l.ordered))
+          (sym (more true e))
           (greatest-more these l.ordered bound l.greatest_first);
       listed = first-placed (λ b. b.under_inherit) BOUNDS bound old new l.ordered l.listed put;
     }
@@ -72,7 +74,8 @@ listed-more n k highest longest seen inner t old new bound real is kept l =
       all = l.all ++ bound ∷ [];
       each = and_thread real is l.each;
       ordered = l.ordered;
-      greatest_first = subst (λ bs. IsGreatestFirst bs l.ordered) (sym (more false e ∙ append-nil these)) l.greatest_first;
+      greatest_first = subst (λ bs. IsOrderedBy is_greater bs l.ordered) (sym (more false e ∙ append-nil these))
+          l.greatest_first;
       listed = put ∙ l.listed;
     }
 

@@ -8,7 +8,8 @@ use Rattle.std.proofs.lemmas.List.Sums.{fold-append}
 use Rattle.pim_blocking.specs.declared.section.Section.{Section}
 use Rattle.pim_blocking.specs.declared.bounds.Per.{Per}
 use Rattle.pim_blocking.specs.declared.bounds.Per.TheVariants as per
-use Rattle.pim_blocking.specs.Bounds.{IsLongestFirst, first_longest, is_first_longest, longest_in, longest_of_number, number_of, sum_of_longest, summed}
+use Rattle.pim_blocking.specs.Ordered.{IsOrderedBy}
+use Rattle.pim_blocking.specs.Bounds.{first_longest, is_first_longest, is_longer, longest_in, longest_of_number, number_of, sum_of_longest, summed}
 
 -- ---- the longest of two lists
 
@@ -258,9 +259,10 @@ picked-past per sections count i d longest new summed more number lt is not is_n
 -- that of the threads
 pub summed-threads : (n k count a b : ℕ) (sections these listed : List Section) → sections ≡ these → count ≡ n →
     a ≡ sum_of_longest per.Thread n these → b ≡ sum_of_longest per.Mutex k these → a ≤ b →
-    IsLongestFirst (first_longest per.Thread count [] sections) listed → IsLongestFirst (summed n k these) listed
+    IsOrderedBy is_longer (first_longest per.Thread count [] sections) listed →
+    IsOrderedBy is_longer (summed n k these) listed
 summed-threads n k count a b sections these listed same counted is_a is_b le =
-    subst (λ l. IsLongestFirst l listed)
+    subst (λ l. IsOrderedBy is_longer l listed)
     (ap (first_longest per.Thread count []) same ∙ ap (λ c. first_longest per.Thread c [] these) counted
     ∙ sym (cond-true _ (first_longest per.Thread n [] these) (first_longest per.Mutex k [] these)
     (ap (λ x. nat_le x (sum_of_longest per.Mutex k these)) (sym is_a) ∙ ap (nat_le a) (sym is_b) ∙ le-leb a b le)))
@@ -268,9 +270,10 @@ summed-threads n k count a b sections these listed same counted is_a is_b le =
 -- that at the mutexes
 pub summed-mutexes : (n k count a b : ℕ) (sections these listed : List Section) → sections ≡ these → count ≡ k →
     a ≡ sum_of_longest per.Thread n these → b ≡ sum_of_longest per.Mutex k these → b < a →
-    IsLongestFirst (first_longest per.Mutex count [] sections) listed → IsLongestFirst (summed n k these) listed
+    IsOrderedBy is_longer (first_longest per.Mutex count [] sections) listed →
+    IsOrderedBy is_longer (summed n k these) listed
 summed-mutexes n k count a b sections these listed same counted is_a is_b lt =
-    subst (λ l. IsLongestFirst l listed)
+    subst (λ l. IsOrderedBy is_longer l listed)
     (ap (first_longest per.Mutex count []) same ∙ ap (λ c. first_longest per.Mutex c [] these) counted
     ∙ sym (cond-false _ (first_longest per.Thread n [] these) (first_longest per.Mutex k [] these)
     (ap (λ x. nat_le x (sum_of_longest per.Mutex k these)) (sym is_a) ∙ ap (nat_le a) (sym is_b) ∙ lt-leb a b lt)))

@@ -2,7 +2,7 @@
 -- Protocols, 1990. The critical sections are those that were observed: a longer one isn't known.
 use Rattle.std.specs.Prelude.{◌≡◌, ◌↔◌, IsTrue, ℕ, zero, suc, ◌+◌, ◌==◌, nat_lt, nat_le, ◌&&◌, ◌||◌, not, Bool, List, [], ◌∷◌, ◌++◌, filter, fold, max, min, if◌then◌else◌}
 use Rattle.std.specs.List.{list_any}
-use Rattle.std.specs.List.Sorted.{IsPermutation, IsSortedBy, IsStableBy}
+use Rattle.pim_blocking.specs.Ordered.{IsOrderedBy}
 use Rattle.pim_blocking.specs.Reached.{IsReached}
 use Rattle.pim_blocking.specs.declared.section.Section.{Section}
 use Rattle.pim_blocking.specs.declared.bounds.Bound.{Bound}
@@ -76,22 +76,16 @@ summed n k sections =
 abbrev pub is_longer : Section → Section → Bool
 is_longer one other = nat_lt other.lasted one.lasted
 
--- These sections are listed with the longest first, and equally long ones in their order.
-pub record IsLongestFirst (sections listed : List Section) : Type 0 where
-  pub these : IsPermutation sections listed
-  pub longest_first : IsSortedBy is_longer listed
-  pub in_order : IsStableBy is_longer sections listed
-
 -- A thread can be blocked for so long at most, where there are n threads and k mutexes, by mutex those that threads asked
 -- for while they owned it. Under INHERIT: for one section of each lower thread, and for one at each mutex, of those at the
 -- mutexes that are reached from the ones used at its level. Under PROTECT: for one section at one that is used so. Those
--- that make the bound under INHERIT are listed.
+-- that make the bound under INHERIT are listed, the longest first, and equally long ones in their order.
 pub record IsBound (n k : ℕ) (seen : List Section) (inner : ℕ → List ℕ) (bound : Bound) : Type 0 where
   pub at : ℕ → Bool
   pub reached : (m : ℕ) → IsTrue (at m) ↔ IsReached k (is_used_below k seen bound.thread bound.level) inner m
   pub under_inherit : bound.under_inherit ≡ min
       (sum_of_longest per.Thread n (blocking at seen bound.thread bound.level))
       (sum_of_longest per.Mutex k (blocking at seen bound.thread bound.level))
-  pub sections : IsLongestFirst (summed n k (blocking at seen bound.thread bound.level)) bound.sections.items
+  pub sections : IsOrderedBy is_longer (summed n k (blocking at seen bound.thread bound.level)) bound.sections.items
   pub under_protect : bound.under_protect ≡
       longest_in (blocking (is_used_below k seen bound.thread bound.level) seen bound.thread bound.level)

@@ -1,11 +1,11 @@
 -- Which bounds are listed, and in which order.
 use Rattle.std.specs.Prelude.{◌≡◌, IsTrue, ℕ, suc, nat_lt, Bool, false, List, [], ◌∷◌, ◌++◌, length, filter, take, min}
-use Rattle.std.specs.List.Sorted.{IsPermutation, IsSortedBy, IsStableBy}
 use Rattle.pim_facts.specs.declared.ids.Ids.{Ids}
 use Rattle.pim_orders.specs.declared.nesting.Order.{Order}
 use Rattle.pim_blocking.specs.Blocked.{KnowsThreads, highest_level, is_real_time, longest_wait}
 use Rattle.pim_blocking.specs.Bounds.{IsBound}
 use Rattle.pim_blocking.specs.Observed.{AreLongest, KnowsSections, Moment, all_sections}
+use Rattle.pim_blocking.specs.Ordered.{IsOrderedBy}
 use Rattle.pim_blocking.specs.Reached.{inner_of}
 use Rattle.pim_blocking.specs.Sections.{AreInOrder}
 use Rattle.pim_blocking.specs.declared.section.Section.{Section}
@@ -20,12 +20,6 @@ is_greater one other = nat_lt other.under_inherit one.under_inherit
 -- whether a thread can be blocked at all under INHERIT
 abbrev pub is_blocked : Bound → Bool
 is_blocked bound = nat_lt 0 bound.under_inherit
-
--- These bounds are ordered with the greatest first, and equal ones as they were.
-pub record IsGreatestFirst (bounds ordered : List Bound) : Type 0 where
-  pub these : IsPermutation bounds ordered
-  pub greatest_first : IsSortedBy is_greater ordered
-  pub in_order : IsStableBy is_greater bounds ordered
 
 -- A thread has this bound, by the highest level of each and its longest wait, where there are n threads and k mutexes. The
 -- bound's number of the thread is t, or 2 ^ 32 - 1 if t is above that.
@@ -51,7 +45,7 @@ pub record AreListed (n k : ℕ) (highest longest : ℕ → ℕ) (seen : List Se
   pub all : List Bound
   pub each : AreOfThreads (IsBoundOf n k highest longest seen inner) highest below all
   pub ordered : List Bound
-  pub greatest_first : IsGreatestFirst (filter is_blocked all) ordered
+  pub greatest_first : IsOrderedBy is_greater (filter is_blocked all) ordered
   pub listed : bounds ≡ take BOUNDS ordered
 
 -- What is known of the threads and mutexes of a log is what these facts show: the levels, the waits and the sections.

@@ -4,7 +4,8 @@ ghost use Rattle.std.specs.List.{position_or_len};
 ghost use Rattle.std.specs.Ordering.{is_lt};
 ghost use Rattle.pim_facts.specs.declared.ids.Ids.{Ids};
 ghost use Rattle.pim_blocking.specs.Observed.{Moment};
-ghost use Rattle.pim_blocking.specs.Bounds.{IsBound, IsLongestFirst, blocking, blocks, capped, first_longest, is_longer, is_used, longest_in, longest_of_number, number_of, sum_below};
+ghost use Rattle.pim_blocking.specs.Ordered.{IsOrderedBy};
+ghost use Rattle.pim_blocking.specs.Bounds.{IsBound, blocking, blocks, capped, first_longest, is_longer, is_used, longest_in, longest_of_number, number_of, sum_below};
 ghost use Rattle.pim_blocking.specs.Listed.{AreBounds, AreListed, Knows, is_blocked, is_greater};
 ghost use Rattle.pim_blocking.specs.Steps.{level_at, waited_at};
 ghost use Rattle.pim_blocking.specs.Reached.{inner_in, is_in};
@@ -320,7 +321,7 @@ fn summed(
 ) -> Result<Vec<Section>, AllocError>
     ensures { IfOk result (λ summed.
         ((n : ℕ) → n < length longest.items → slice_index_or longest.items n 0 ≡ longest_of_number per sections.now n) →
-        IsLongestFirst (first_longest per (length longest.items) [] sections.now) summed.items) }
+        IsOrderedBy is_longer (first_longest per (length longest.items) [] sections.now) summed.items) }
 {
     let mut longest = longest;
     let mut summed = Vec::new(alloc);
@@ -345,7 +346,7 @@ fn is_left(longest: &[u64], number: usize, lasted: u64) -> bool
 /// Sorts sections with the longest first. Equally long ones keep their order.
 #[tactic(auto, using(crate::proofs::Sorting::less))]
 fn sort(sections: &mut Vec<Section>) -> Result<(), AllocError>
-    ensures { IfOk result (λ _. IsLongestFirst sections.old.items sections.new.items) }
+    ensures { IfOk result (λ _. IsOrderedBy is_longer sections.old.items sections.new.items) }
 {
     sections.sort_by(
         |one: &Section, other: &Section| -> Ordering

@@ -5,41 +5,42 @@ use Rattle.std.specs.List.Sorted.{ties}
 use Rattle.std.proofs.lemmas.Bool.{le-ltb, ltb-false, ltb-true}
 use Rattle.std.proofs.lemmas.List.{reverse-append, reverse-reverse}
 use Rattle.std.proofs.lemmas.List.Sorted.{IsPermutation-refl}
+use Rattle.pim_blocking.specs.Ordered.{IsOrderedBy}
 use Rattle.pim_blocking.proofs.Placing.{exceeds, placed}
 use Rattle.pim_blocking.proofs.Ranking.{AllUpTo, Descends, descends-sorted, none-ties, placed-permutes, placed-sorted, placed-stable, sorted-pairs}
 use Rattle.pim_findings.specs.declared.found_wait.FoundWait.{FoundWait}
-use Rattle.pim_findings.specs.Longest.{IsLongestFirst}
+use Rattle.pim_findings.specs.Longest.{is_longer}
 use Rattle.pim_findings.specs.Laws.{IsNoShorter}
 
 -- ---- one wait more
 
-pub longest-none : IsLongestFirst [] []
+pub longest-none : IsOrderedBy is_longer [] []
 longest-none = record {
   these = IsPermutation-refl [];
-  longest_first = λ i d from inside. absurd (omega arith);
+  sorted = λ i d from inside. absurd (omega arith);
   in_order = λ x. refl;
 }
 
 -- one that ended behind the others is behind those that are as long
-pub longest-placed : (wait : FoundWait) (waits ordered : List FoundWait) → IsLongestFirst (reverse waits) ordered →
-    IsLongestFirst (reverse (wait ∷ waits)) (placed (λ w. w.lasted) wait ordered)
+pub longest-placed : (wait : FoundWait) (waits ordered : List FoundWait) → IsOrderedBy is_longer (reverse waits) ordered →
+    IsOrderedBy is_longer (reverse (wait ∷ waits)) (placed (λ w. w.lasted) wait ordered)
 longest-placed wait waits ordered o =
-    subst (λ all. IsLongestFirst all (placed (λ w. w.lasted) wait ordered))
+    subst (λ all. IsOrderedBy is_longer all (placed (λ w. w.lasted) wait ordered))
     (sym (reverse-append (wait ∷ []) waits)) (record {
       these = placed-permutes (λ w. w.lasted) wait (reverse waits) ordered o.these;
-      longest_first = placed-sorted (λ w. w.lasted) wait ordered o.longest_first;
-      in_order = placed-stable (λ w. w.lasted) wait (reverse waits) ordered o.longest_first o.in_order;
+      sorted = placed-sorted (λ w. w.lasted) wait ordered o.sorted;
+      in_order = placed-stable (λ w. w.lasted) wait (reverse waits) ordered o.sorted o.in_order;
     })
 
-some-reversed : (waits : List FoundWait) → (ordered : List FoundWait) × IsLongestFirst (reverse waits) ordered
+some-reversed : (waits : List FoundWait) → (ordered : List FoundWait) × IsOrderedBy is_longer (reverse waits) ordered
 some-reversed [] = ([], longest-none)
 some-reversed (wait ∷ waits) =
     let before = some-reversed waits in (placed (λ w. w.lasted) wait before.0, longest-placed wait waits before.0 before.1)
 
 -- waits have such an order
-pub longest-some : (waits : List FoundWait) → (ordered : List FoundWait) × IsLongestFirst waits ordered
+pub longest-some : (waits : List FoundWait) → (ordered : List FoundWait) × IsOrderedBy is_longer waits ordered
 longest-some waits =
-    subst (λ all. (ordered : List FoundWait) × IsLongestFirst all ordered) (reverse-reverse waits)
+    subst (λ all. (ordered : List FoundWait) × IsOrderedBy is_longer all ordered) (reverse-reverse waits)
     (some-reversed (reverse waits))
 
 -- ---- and no other
@@ -108,12 +109,13 @@ only-order size (y ∷ ys) (z ∷ zs) up down same =
     (sym first) (same x))) in
     ap (λ w. w ∷ ys) first ∙ ap (λ l. z ∷ l) others
 
-pub longest-one : (waits ordered other : List FoundWait) → IsLongestFirst waits ordered →
-    IsLongestFirst waits other → ordered ≡ other
+pub longest-one : (waits ordered other : List FoundWait) → IsOrderedBy is_longer waits ordered →
+    IsOrderedBy is_longer waits other → ordered ≡ other
 longest-one waits ordered other o p =
-    only-order (λ w. w.lasted) ordered other (descends-sorted (λ w. w.lasted) ordered o.longest_first)
-    (descends-sorted (λ w. w.lasted) other p.longest_first) (λ x. o.in_order x ∙ sym (p.in_order x))
+    only-order (λ w. w.lasted) ordered other (descends-sorted (λ w. w.lasted) ordered o.sorted)
+    (descends-sorted (λ w. w.lasted) other p.sorted) (λ x. o.in_order x ∙ sym (p.in_order x))
 
 -- in it each wait is no shorter than all later ones
-pub longest-no_shorter : (waits ordered : List FoundWait) → IsLongestFirst waits ordered → AllPairs IsNoShorter ordered
-longest-no_shorter waits ordered o = sorted-pairs (λ w. w.lasted) ordered o.longest_first
+pub longest-no_shorter : (waits ordered : List FoundWait) → IsOrderedBy is_longer waits ordered →
+    AllPairs IsNoShorter ordered
+longest-no_shorter waits ordered o = sorted-pairs (λ w. w.lasted) ordered o.sorted

@@ -2,10 +2,11 @@
 use Rattle.std.specs.Prelude.{◌≡◌, ◌≢◌, ◌↔◌, ℕ, ◌-◌, ◌≤◌, false, List, ◌∷◌, ◌++◌, Option, Some, IsTrue, IfSome, All, AllPairs, Contains}
 use Rattle.pim_facts.specs.declared.fact.What.{What}
 use Rattle.pim_facts.specs.declared.fact.What.TheVariants.{Granted, Waits, GaveUp, Released, Level, Ceiling}
+use Rattle.pim_blocking.specs.Ordered.{IsOrderedBy}
 use Rattle.pim_findings.specs.declared.found_mutex.FoundOwnership.{FoundOwnership}
 use Rattle.pim_findings.specs.declared.found_wait.FoundWait.{FoundWait}
 use Rattle.pim_findings.specs.Waits.{Moment, all_waits, begun_wait, ended_waits, ends_wait, lasting_until, wait_of}
-use Rattle.pim_findings.specs.Longest.{IsLongestFirst}
+use Rattle.pim_findings.specs.Longest.{is_longer}
 use Rattle.pim_findings.specs.Ownerships.{IsLongest, grants, last_granted, ownerships_of, releases}
 
 -- what happened neither begins a wait of its thread nor ends one
@@ -63,10 +64,10 @@ IsNoShorter a b = b.lasted ≤ a.lasted
 -- the longest first, equally long ones as they were: waits have just one such order, and in it each is no shorter than all
 -- later ones
 pub record LongestLaw : Type 0 where
-  pub some : (waits : List FoundWait) → (ordered : List FoundWait) × IsLongestFirst waits ordered
-  pub one : (waits ordered other : List FoundWait) → IsLongestFirst waits ordered →
-      IsLongestFirst waits other → ordered ≡ other
-  pub no_shorter : (waits ordered : List FoundWait) → IsLongestFirst waits ordered → AllPairs IsNoShorter ordered
+  pub some : (waits : List FoundWait) → (ordered : List FoundWait) × IsOrderedBy is_longer waits ordered
+  pub one : (waits ordered other : List FoundWait) → IsOrderedBy is_longer waits ordered →
+      IsOrderedBy is_longer waits other → ordered ≡ other
+  pub no_shorter : (waits ordered : List FoundWait) → IsOrderedBy is_longer waits ordered → AllPairs IsNoShorter ordered
 
 -- a mutex was last granted at this time: one of these facts grants it, and no later one does
 pub record WasGranted (facts : List Moment) (mutex since : ℕ) : Type 0 where

@@ -1,8 +1,8 @@
 -- What is reported of waits: how many, and the longest.
 use Rattle.std.specs.Prelude.{◌≡◌, ℕ, ◌<◌, ◌==◌, nat_lt, ◌&&◌, Bool, List, [], ◌∷◌, length, take, reverse, min, max, count_by, sum_by, slice_index_or, if◌then◌else◌, Option, IfSome, Vec}
-use Rattle.std.specs.List.Sorted.{IsPermutation, IsSortedBy, IsStableBy}
 use Rattle.std.specs.Global.{Global}
 use Rattle.std.specs.Option.{option_map}
+use Rattle.pim_blocking.specs.Ordered.{IsOrderedBy}
 use Rattle.pim_findings.specs.declared.found_wait.FoundWait.{FoundWait}
 use Rattle.pim_findings.specs.declared.found_waits.FoundWaits.{FoundWaits}
 use Rattle.pim_findings.specs.declared.found_waits.MutexWaits.{MutexWaits}
@@ -12,17 +12,11 @@ use Rattle.pim_findings.specs.declared.found_waits.TheConstants.{LONGEST}
 abbrev pub is_longer : FoundWait → FoundWait → Bool
 is_longer one other = nat_lt other.lasted one.lasted
 
--- These waits are ordered with the longest first, and equally long ones as they were.
-pub record IsLongestFirst (waits ordered : List FoundWait) : Type 0 where
-  pub these : IsPermutation waits ordered
-  pub longest_first : IsSortedBy is_longer ordered
-  pub in_order : IsStableBy is_longer waits ordered
-
 -- Of waits in the order in which they ended the ten longest are listed, or all if there are fewer: the longest first, of
 -- equally long ones that which ended first.
 pub record ListsLongest (waits listed : List FoundWait) : Type 0 where
   pub ordered : List FoundWait
-  pub longest_first : IsLongestFirst waits ordered
+  pub longest_first : IsOrderedBy is_longer waits ordered
   pub is : listed ≡ take LONGEST ordered
 
 -- a number, or the highest that a u64 has if that is higher

@@ -11,6 +11,6 @@ returns c =
     ok-then c.sort_by.result
     (λ sorted. record {
       these = c.sort_by.ensures.permutation;
-      longest_first = sorted is_longer order (answers_always _ _ _ (λ f a r g called. search rules));
+      sorted = sorted is_longer order (answers_always _ _ _ (λ f a r g called. search rules));
       in_order = c.sort_by.ensures.stable is_longer order (answers_always _ _ _ (λ f a r g called. search rules));
     }) c.sort_by.ensures.sorted

@@ -1,6 +1,7 @@
 use Rattle.std.proofs.Common.{◌≡◌, ◌∙◌, ◌<◌, [], ap, length, min, subst, sym, arith}
 use Rattle.pim_blocking.specs.declared.bounds.Per.TheVariants as per
-use Rattle.pim_blocking.specs.Bounds.{IsLongestFirst, blocking, first_longest, is_used_below, longest_in, longest_of_number, sum_of_longest}
+use Rattle.pim_blocking.specs.Ordered.{IsOrderedBy}
+use Rattle.pim_blocking.specs.Bounds.{blocking, first_longest, is_longer, is_used_below, longest_in, longest_of_number, sum_of_longest}
 use Rattle.pim_blocking.specs.Reached.{inner_in, is_in}
 use Rattle.pim_blocking.proofs.Bounding.{blocking-same, longest-summed, used-same}
 use Rattle.pim_blocking.proofs.Reaching.{reached-same}
@@ -53,7 +54,7 @@ returns-clause-bound c =
             w.deref-then-by_thread-by_mutex.result.now blocked c.if-by_thread-by_mutex.sections.items
             (w.deref-then-by_thread-by_mutex.ensures.value ∙ these)
             (c.in_ok-of_threads.ensures.len ∙ c.thread_count-threads.ensures) by_thread by_mutex w.if-by_thread-by_mutex.true
-            (subst (λ v. IsLongestFirst (first_longest per.Thread (length c.in_ok-of_threads.of_threads.items) []
+            (subst (λ v. IsOrderedBy is_longer (first_longest per.Thread (length c.in_ok-of_threads.of_threads.items) []
             w.deref-then-by_thread-by_mutex.result.now) v.items) (sym w.sections-is) (w.in_ok-sections.ensures
             (λ u h. c.in_ok-of_threads.ensures.each u (subst (λ l. u < l) c.in_ok-of_threads.ensures.len h)
             ∙ ap (λ ss. longest_of_number per.Thread ss u)
@@ -64,7 +65,7 @@ returns-clause-bound c =
             w.deref-else-by_thread-by_mutex.result.now blocked c.if-by_thread-by_mutex.sections.items
             (w.deref-else-by_thread-by_mutex.ensures.value ∙ these)
             (c.in_ok-of_mutexes.ensures.len ∙ c.mutexes-mutexes.ensures) by_thread by_mutex w.if-by_thread-by_mutex.false
-            (subst (λ v. IsLongestFirst (first_longest per.Mutex (length c.in_ok-of_mutexes.of_mutexes.items) []
+            (subst (λ v. IsOrderedBy is_longer (first_longest per.Mutex (length c.in_ok-of_mutexes.of_mutexes.items) []
             w.deref-else-by_thread-by_mutex.result.now) v.items) (sym w.sections-is) (w.in_ok-sections-2.ensures
             (λ u h. c.in_ok-of_mutexes.ensures.each u (subst (λ l. u < l) c.in_ok-of_mutexes.ensures.len h)
             ∙ ap (λ ss. longest_of_number per.Mutex ss u) (c.deref-4.ensures.value
