@@ -6,6 +6,7 @@ use Rattle.pim_facts.specs.declared.fact.What.TheVariants.{Granted, Waits, GaveU
 use Rattle.pim_facts.specs.declared.ids.Ids.{Ids}
 use Rattle.pim_facts.specs.declared.ids.LoggedThread.{LoggedThread}
 use Rattle.pim_course.specs.Courses.{thread_in}
+use Rattle.pim_course.specs.NextOwners.{is_that}
 use Rattle.pim_course.specs.declared.course.Course.{Course}
 use Rattle.pim_blocking.specs.Observed.{Moment}
 use Rattle.pim_blocking.specs.declared.blocked.Blocked.{Blocked}
@@ -18,7 +19,7 @@ is_real_time level = nat_le 1 level && nat_le level 99
 -- the level of a thread at the begin: that of its first record; 0, the lowest, if its task's number is the highest u32,
 -- which no thread of a program has
 abbrev pub level_of : LoggedThread → ℕ
-level_of thread = if thread.task == NOBODY then 0 else thread.level
+level_of thread = if is_that thread.task NOBODY then 0 else thread.level
 
 -- the level at the begin of the thread with a number; 0 if there is none
 abbrev pub first_level : Ids → ℕ → ℕ

@@ -47,7 +47,7 @@ pub(crate) fn blocked_by_thread(
 fn first_level(thread: &LoggedThread) -> u8
     ensures { result ≡ level_of thread.now }
 {
-    if thread.task == NOBODY {
+    if thread.task == Some(NOBODY) {
         0
     } else {
         thread.level

@@ -128,13 +128,16 @@ impl Compared {
         let Some(logged) = imported.sources.ids.threads.get(thread) else {
             return Ok(());
         };
-        let Some(track) = sources.tracks.of_task(logged.task) else {
+        let Some(task) = logged.task else {
+            return Ok(());
+        };
+        let Some(track) = sources.tracks.of_task(task) else {
             return Ok(());
         };
         let Some(course) = sources.courses.get(thread) else {
             return Ok(());
         };
-        let is_alone = sources.counts.get(&logged.task) == Some(&1);
+        let is_alone = sources.counts.get(&task) == Some(&1);
         if !is_alone || course.turns.len() < 2 {
             return Ok(());
         }
@@ -195,7 +198,7 @@ fn wait_during(
     let Waiter { thread, mutex } = waiter?;
     let ids = &imported.sources.ids;
     let address = ids.mutex(mutex)?.address;
-    let track = tracks.of_task(ids.threads.get(thread as usize)?.task)?;
+    let track = tracks.of_task(ids.threads.get(thread as usize)?.task?)?;
     let calls = track.calls.as_slice();
     for place in (0..first_from(calls, difference.end).min(calls.len())).rev() {
         let call = calls[place];
@@ -261,11 +264,11 @@ fn marks_of(alloc: Global, course: &Course, ended: u64) -> Result<Vec<Mark>, All
 fn counts_of(alloc: Global, imported: &Imported) -> Result<HashMap<u32, u32>, AllocError> {
     let mut counts = HashMap::new(alloc);
     for thread in &imported.sources.ids.threads {
-        let before: u32 = counts.get(&thread.task).copied().unwrap_or(0);
-        if counts
-            .insert(thread.task, before.saturating_add(1))
-            .is_err()
-        {
+        let Some(task) = thread.task else {
+            continue;
+        };
+        let before: u32 = counts.get(&task).copied().unwrap_or(0);
+        if counts.insert(task, before.saturating_add(1)).is_err() {
             return Err(AllocError);
         }
     }

@@ -1,5 +1,6 @@
 //! When the steps of a trace were done.
 
+use pim_facts::LoggedThread;
 use pim_import::Imported;
 use pim_kernel_events::{Call, Track, Tracks};
 use pim_log::{Event, Log, Record};
@@ -174,7 +175,7 @@ impl Timing {
             if self.bounds.get(&time).is_none() {
                 continue;
             }
-            if let Some(track) = tracks.of_task(thread.task) {
+            if let Some(track) = track_of(tracks, thread) {
                 if let Some(call) = call_asleep(track, time) {
                     put(&mut self.known, (track.task, call.begin), true)?;
                     self.put(time, (call.begin, time))?;
@@ -187,7 +188,7 @@ impl Timing {
     /// Finds the waits whose requests neither the log nor the trace has.
     fn take_unknown(&mut self, imported: &Imported, tracks: &Tracks) -> Result<(), AllocError> {
         for thread in &imported.sources.ids.threads {
-            if let Some(track) = tracks.of_task(thread.task) {
+            if let Some(track) = track_of(tracks, thread) {
                 for call in &track.calls {
                     let is_wait = call.waited_from().is_some();
                     if is_wait && self.known.get(&(track.task, call.begin)).is_none() {
@@ -199,6 +200,11 @@ impl Timing {
         self.unknown.sort_unstable();
         Ok(())
     }
+}
+
+/// Returns what a thread of the log did, if the log has a record of it and the recording has its task.
+fn track_of<'a>(tracks: &'a Tracks, thread: &LoggedThread) -> Option<&'a Track> {
+    tracks.of_task(thread.task?)
 }
 
 /// Returns when a call returned: the highest time there is if that isn't known.

@@ -53,7 +53,6 @@ pub has-those : (bytes : List ℕ) (ids : Ids) (course : Course) (slot number : 
 has-those bytes ids course slot number r covers all below numbered is =
     let those = covers slot number r below numbered is in
     record {
-      above = those.above;
       thread = subst (λ k. r.thread < k) (sym all.threads) those.thread;
       about = has-id ids course (id_of ids number) r.event all those.about;
     }

@@ -67,10 +67,6 @@ goes-then a b old mid new first next =
       few = omega (arith, first.few, next.few);
     }
 
-pub goes-within : (a b : ℕ) (old new : Course) → a ≤ b → GoesOn a old new → GoesOn b old new
-goes-within a b old new le goes =
-    record { led = λ from led room. goes.led from led (omega arith); few = omega (arith, goes.few) }
-
 pub led-by : (most : ℕ) (old new : Course) → most ≤ 4 → GoesOn most old new → shown_in old.shown ≡ [] →
     Lead (shown_in new.shown) (world_of old) (world_of new)
 led-by most old new le goes none =

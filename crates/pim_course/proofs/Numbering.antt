@@ -247,10 +247,6 @@ numbers-then a b old mid new first next =
       few = omega (arith, first.few, next.few);
     }
 
-pub numbers-within : (a b : ℕ) (old new : Course) → a ≤ b → Numbers a old new → Numbers b old new
-numbers-within a b old new le numbers =
-    record { numbered = λ from led room. numbers.numbered from led (omega arith); few = omega (arith, numbers.few) }
-
 pub numbered-by : (most : ℕ) (old new : Course) → most ≤ 4 → Numbers most old new → shown_in old.shown ≡ [] →
     AreNumbered (shown_in new.shown) (sections_of old) (sections_of new)
 numbered-by most old new le numbers none =

@@ -60,7 +60,7 @@ unnamed_kept ids m t time behind =
 
 -- whether a thread has this task
 abbrev pub has_task : Ids → ℕ → ℕ → Bool
-has_task ids task t = option_map_or (λ thread. thread.task == task) (slice_get ids.threads.items t) false
+has_task ids task t = option_map_or (λ thread. is_that thread.task task) (slice_get ids.threads.items t) false
 
 -- another thread that is granted a mutex next, if it has this task
 abbrev pub next_with_task : Ids → ℕ → ℕ → ℕ → List Record → Option ℕ
@@ -75,7 +75,7 @@ is_shared ids m = option_map_or (λ mutex. is_none mutex.process) (slice_get ids
 -- mutex
 abbrev pub may_own : Ids → ℕ → ℕ → ℕ → Bool
 may_own ids m process t =
-    option_map_or (λ thread. is_shared ids m || thread.process == process) (slice_get ids.threads.items t) false
+    option_map_or (λ thread. is_shared ids m || is_that thread.process process) (slice_get ids.threads.items t) false
 
 -- a thread that is named, if it may own the mutex
 abbrev pub named_owner : Ids → ℕ → ℕ → Option ℕ → Option ℕ

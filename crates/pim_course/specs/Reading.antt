@@ -58,14 +58,12 @@ HasNumber course _ number = Unit {0}
 
 -- a course has the thread of a record, and whom the record is about, if that is known
 pub record HasThoseOf (course : Course) (r : Record) (id : Option ℕ) : Type 0 where
-  pub above : 0 < r.thread
   pub thread : r.thread < length course.threads.items
   pub about : IfSome id (HasNumber course r.event)
 
--- a course has the thread of a request, which is for a mutex
-pub record HasRequest (course : Course) (request : Request) : Type 0 where
-  pub thread : request.thread < length course.threads.items
-  pub mutex : 0 < request.mutex
+-- a course has the thread of a request
+abbrev pub HasRequest : Course → Request → Type 0
+HasRequest course request = request.thread < length course.threads.items
 
 -- no record of a log has this number
 abbrev pub LacksRecord : List ℕ → ℕ → Type 0

@@ -358,7 +358,7 @@ impl Coming {
     {
         let next = self.next_other(thread, mutex)?;
         match ids.threads.get(next as usize) {
-            Some(is) if is.task == task => Some(next),
+            Some(is) if is.task == Some(task) => Some(next),
             _ => None,
         }
     }
@@ -422,7 +422,7 @@ fn may_own(ids: &Ids, mutex: u32, process: u32, thread: u32) -> bool
         None => false,
     };
     match ids.threads.get(thread as usize) {
-        Some(named) => is_shared || named.process == process,
+        Some(named) => is_shared || named.process == Some(process),
         None => false,
     }
 }

@@ -23,10 +23,10 @@ pub const MAX_THREADS: u32 = 1 << 22;
 /// A thread of a log.
 #[derive(Clone, Copy, PartialEq, Eq)]
 pub struct LoggedThread {
-    /// The kernel's number of its process. 0 if no record is the thread's.
-    pub process: u32,
-    /// The kernel's number of the thread.
-    pub task: u32,
+    /// The kernel's number of its process. `None` if no record is the thread's.
+    pub process: Option<u32>,
+    /// The kernel's number of the thread. `None` if no record is the thread's.
+    pub task: Option<u32>,
     /// The level that its first record says.
     pub level: u8,
 }
@@ -86,8 +86,8 @@ struct Found {
 const FOUND: u64 = 1021;
 
 const NO_THREAD: LoggedThread = LoggedThread {
-    process: 0,
-    task: 0,
+    process: None,
+    task: None,
     level: 0,
 };
 
@@ -319,9 +319,9 @@ impl Ids {
     {
         let thread = record.thread as usize;
         if thread < self.threads.len() {
-            let is_new = self.threads[thread].task == 0;
-            self.threads[thread].process = record.process;
-            self.threads[thread].task = record.task;
+            let is_new = self.threads[thread].task.is_none();
+            self.threads[thread].process = Some(record.process);
+            self.threads[thread].task = Some(record.task);
             if is_new && !matches!(record.event, Event::Thread { .. }) {
                 self.keep_level(0);
             }

@@ -56,7 +56,7 @@ by-request bytes waits sources from to covers shown few goes was =
     record {
       all = all-same sources.ids from.course to.course was.all goes.size;
       counted =
-          counted-added from.course to.course goes.request goes.size.threads (omega (arith, was.all.threads)) both.0.thread
+          counted-added from.course to.course goes.request goes.size.threads (omega (arith, was.all.threads)) both.0
           goes.told (goes.led both.0) (goes.sections both) was.counted;
     }
 

@@ -151,7 +151,7 @@ fn awaited_in(alloc: Global, imported: &Imported) -> Result<Vec<Awaited>, AllocE
             .and_then(|owner| threads.get(owner.thread as usize));
         let awaited = Awaited {
             level: wait.level,
-            owner: owner.map(|thread| thread.task),
+            owner: owner.and_then(|thread| thread.task),
             began: wait.began,
             ended: wait.began.saturating_add(wait.lasted),
         };

@@ -119,9 +119,9 @@ impl<'a> Table<'a> {
             self.line.put("task ");
             self.line.number(u64::from(number));
             self.line.put(" ");
-            self.line.number(u64::from(is.process));
+            self.line.number(u64::from(is.process.unwrap_or(0)));
             self.line.put("/");
-            self.line.number(u64::from(is.task));
+            self.line.number(u64::from(is.task.unwrap_or(0)));
             self.line.put(" ");
             self.labels.put_name(&mut self.line, thread);
             self.line.put("\n");

@@ -217,9 +217,12 @@ impl Labels {
 
     /// Adds a process that this thread forked, if the log has a record of the thread.
     fn add_child(&mut self, ids: &Ids, process: u32, parent: u32) -> Result<(), AllocError> {
-        let parent = match ids.threads.get(parent as usize) {
-            Some(thread) if thread.process != 0 => thread.process,
-            _ => return Ok(()),
+        let Some(parent) = ids
+            .threads
+            .get(parent as usize)
+            .and_then(|thread| thread.process)
+        else {
+            return Ok(());
         };
         match self.children.push(Child { process, parent }) {
             Ok(()) => Ok(()),

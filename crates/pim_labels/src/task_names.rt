@@ -4,6 +4,9 @@ use crate::words::{Told, put_thread};
 use pim_kernel_events::Tasks;
 use pim_out::Out;
 
+/// The kernel's idle task, which is none of the threads that a log has records of.
+const IDLE: u32 = 0;
+
 /// Where the names of tasks are.
 #[derive(Clone, Copy)]
 pub struct TaskNames<'a> {
@@ -13,11 +16,14 @@ pub struct TaskNames<'a> {
     pub told: Option<Told<'a>>,
 }
 
-/// Returns the log and its thread that has this number in the kernel, the last one if several had it.
+/// Returns the log and its thread that has this number in the kernel, the last one if several had it. The idle task is as a
+/// thread that no record is of: each log has one, without a name.
 pub fn thread_of<'a>(names: &TaskNames<'a>, task: u32) -> Option<(Told<'a>, u32)> {
     let told = names.told?;
     let threads = told.imported.sources.ids.threads.as_slice();
-    let place = threads.iter().rposition(|thread| thread.task == task)?;
+    let place = threads
+        .iter()
+        .rposition(|thread| thread.task.unwrap_or(IDLE) == task)?;
     let thread = u32::try_from(place).ok()?;
     Some((told, thread))
 }

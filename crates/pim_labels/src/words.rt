@@ -65,7 +65,7 @@ pub fn put_thread(out: &mut Out, told: &Told, thread: u32) {
     match told.imported.sources.ids.threads.get(thread as usize) {
         Some(is) => {
             out.put("[");
-            out.number(u64::from(is.task));
+            out.number(u64::from(is.task.unwrap_or(0)));
             out.put("]");
         }
         None => out.put("?"),
@@ -126,8 +126,8 @@ pub fn put_code(out: &mut Out, told: &Told, words: &str, thread: u32, place: Opt
         return;
     };
     let process = match told.imported.sources.ids.threads.get(thread as usize) {
-        Some(is) if is.process != 0 => Some(is.process),
-        _ => None,
+        Some(is) => is.process,
+        None => None,
     };
     out.put(words);
     told.labels.put_code(out, number, process, address);

@@ -161,8 +161,8 @@ pub fn put_thread(alloc: Global, out: &mut JsonOut, told: &Told, key: &str, thre
     out.begin_object();
     out.text("name", &name);
     if let Some(is) = told.imported.sources.ids.threads.get(thread as usize) {
-        out.number("process", u64::from(is.process));
-        out.number("task", u64::from(is.task));
+        out.number("process", u64::from(is.process.unwrap_or(0)));
+        out.number("task", u64::from(is.task.unwrap_or(0)));
     }
     if let Some(number) = told.imported.numbering.threads.of(thread) {
         out.number("number", u64::from(number));

@@ -52,22 +52,15 @@ of-call bytes ids course r covers all is =
     let has : is.end.thread < length ids.threads.items = those.thread in
     let number : HasMutex ids r.mutex =
     subst (HasKnownMutex ids) is.mutex (named ids (id_of ids is.end.number) is.end.event is.lasted those.about) in (
-      record {
-        thread = subst (λ t. t < length course.threads.items) (sym is.thread)
-            (subst (λ n. is.end.thread < n) (sym all.threads) has);
-        mutex = number.0;
-      },
+      subst (λ t. t < length course.threads.items) (sym is.thread)
+          (subst (λ n. is.end.thread < n) (sym all.threads) has),
       subst (λ n. r.mutex < n) (sym all.mutexes) number.1,
     )
 
 of-wait : (ids : Ids) (waits : List Wait) (course : Course) (r : Request) → HasAllOf ids course → IsOfWait ids waits r →
     HasBoth course r
 of-wait ids waits course r all is = (
-  record {
-    thread = subst (λ n. r.thread < n) (sym all.threads)
-        (slice_get_within ids.threads.items r.thread is.of.thread is.of.has_thread);
-    mutex = is.of.named;
-  },
+  subst (λ n. r.thread < n) (sym all.threads) (slice_get_within ids.threads.items r.thread is.of.thread is.of.has_thread),
   subst (λ n. r.mutex < n) (sym all.mutexes) (slice_get_within ids.mutexes.items r.mutex is.of.mutex is.of.has_mutex),
 )
 

@@ -105,12 +105,12 @@ pub record IsWaitOf (ids : Ids) (wait : Wait) (t m : ℕ) : Type 0 where
   pub above : 0 < t
   pub thread : LoggedThread
   pub has_thread : slice_get ids.threads.items t ≡ Some thread
-  pub task : thread.task ≡ wait.task
+  pub task : thread.task ≡ Some wait.task
   pub named : 0 < m
   pub mutex : LoggedMutex
   pub has_mutex : slice_get ids.mutexes.items m ≡ Some mutex
   pub address : mutex.address ≡ wait.address
-  pub process : (mutex.process ≡ Some thread.process) ⊎ (mutex.process ≡ None)
+  pub process : (mutex.process ≡ thread.process) ⊎ (mutex.process ≡ None)
 
 -- a request that one of the waits shows: it is of the wait's thread, for its mutex, and begins with it
 pub record IsOfWait (ids : Ids) (waits : List Wait) (request : Request) : Type 0 where

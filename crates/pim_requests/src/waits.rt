@@ -238,7 +238,7 @@ impl Search {
     {
         let thread = *self.threads.get(&wait.task)?;
         let process = sources.ids.threads.get(thread as usize)?.process;
-        let mutex = match self.mutexes.get(&(Some(process), wait.address)) {
+        let mutex = match self.mutexes.get(&(process, wait.address)) {
             Some(own) => own,
             None => self.mutexes.get(&(None, wait.address))?,
         };
@@ -463,8 +463,8 @@ fn is_of(wait: &Wait, ids: &Ids, thread: u32, mutex: u32) -> bool
     ) else {
         return false;
     };
-    if thread == 0 || mutex == 0 || of.task != wait.task || at.address != wait.address {
+    if thread == 0 || mutex == 0 || of.task != Some(wait.task) || at.address != wait.address {
         return false;
     }
-    at.process == Some(of.process) || at.process.is_none()
+    at.process == of.process || at.process.is_none()
 }

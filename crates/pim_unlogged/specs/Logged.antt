@@ -1,6 +1,6 @@
 -- Which waits for futexes a log doesn't have.
 use Rattle.std.specs.Prelude.{◌≡◌, ℕ, ◌+◌, min, Bool, List, [], ◌++◌, if◌then◌else◌, Option, is_none, slice_get, filter_map}
-use Rattle.std.specs.Option.{option_map, option_map_or}
+use Rattle.std.specs.Option.{option_and_then, option_map, option_map_or}
 use Rattle.pim_facts.specs.declared.ids.Ids.{Ids}
 use Rattle.pim_findings.specs.declared.found_wait.FoundWait.{FoundWait}
 use Rattle.pim_findings.specs.declared.found_waits.FoundWaits.{FoundWaits}
@@ -18,10 +18,11 @@ listed waits = option_map_or (λ all. all.items) waits.all []
 abbrev pub until_of : ℕ → ℕ → Bool → ℕ
 until_of began lasted is_open = if is_open then 18446744073709551615 else min (began + lasted) 18446744073709551615
 
--- when a thread of the log waited, by the kernel's number of the thread
+-- when a thread of the log waited, by the kernel's number of the thread, if a record says that
 abbrev pub span_of : Ids → ℕ → ℕ → ℕ → Bool → Option Span
 span_of ids thread began lasted is_open =
-    option_map (λ logged. record { task = logged.task; began = began; until = until_of began lasted is_open }) (slice_get ids.threads.items thread)
+    option_map (λ task. record { task = task; began = began; until = until_of began lasted is_open })
+    (option_and_then (λ logged. logged.task) (slice_get ids.threads.items thread))
 
 abbrev pub span_of_found : Ids → FoundWait → Option Span
 span_of_found ids wait = span_of ids wait.thread wait.began wait.lasted wait.is_open

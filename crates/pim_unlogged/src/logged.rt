@@ -86,11 +86,12 @@ fn span_of_other(ids: &Ids, wait: &OtherWait) -> Option<Span>
     span_of(ids, wait.thread, wait.began, wait.lasted, is_open)
 }
 
-/// Returns when a thread waited, if it is known. A wait that lasts at the end of the log has no end: the events may go on.
+/// Returns when a thread waited, if a record is the thread's. A wait that lasts at the end of the log has no end: the
+/// events may go on.
 fn span_of(ids: &Ids, thread: u32, began: u64, lasted: u64, is_open: bool) -> Option<Span>
     ensures { result ≡ span_of ids.now thread began lasted is_open }
 {
-    let task = ids.threads.get(thread as usize)?.task;
+    let task = ids.threads.get(thread as usize)?.task?;
     let until = if is_open {
         u64::MAX
     } else {

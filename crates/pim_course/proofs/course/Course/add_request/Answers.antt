@@ -17,7 +17,7 @@ returns-then-ne-clause-shown c has none =
     let still : IsStill old c.ask_at.new.self = c.ask_at.ensures.still in
     led-by 1 old c.wait.new.self (omega arith)
     (goes-then 0 1 old c.ask_at.new.self c.wait.new.self (goes-still old c.ask_at.new.self still)
-    (c.wait.ensures.goes (omega (arith, has.thread, c.ask_at.ensures.size.threads))
+    (c.wait.ensures.goes (omega (arith, has, c.ask_at.ensures.size.threads))
     (subst (λ w. CanHappen w (Waits c.args.request.now.mutex) c.args.request.now.thread) (sym still.world) (
       ap (λ y. y.awaits) (sym c.thread.ensures) ∙ none-by _ (c.is_none.ensures ∙ ap not c.if-is_none.true),
       λ e. isnt-that _ _ (grind (arith, c.ne.ensures, c.if-ne.true, c.if-ne.ensures))
@@ -31,7 +31,7 @@ returns-then-ne-clause-sections c has below none =
     let d : Course = c.ask_at.new.self in
     numbered-by 1 old c.wait.new.self (omega arith)
     (numbers-then 0 1 old d c.wait.new.self (numbers-none 0 old d c.ask_at.ensures.still.shown c.ask_at.ensures.sections)
-    (c.wait.ensures.sections (omega (arith, has.thread, c.ask_at.ensures.size.threads))
+    (c.wait.ensures.sections (omega (arith, has, c.ask_at.ensures.size.threads))
     (omega (arith, below, c.ask_at.ensures.size.mutexes))))
     none
 
@@ -45,8 +45,8 @@ returns-then-ne-clause-details c has =
     let d : Course = c.ask_at.new.self in
     let owner : Option ℕ = c.first_other-owner.result in
     let there : Details = asked t request.place (details_of old) in
-    c.wait.ensures.details (omega (arith, has.thread, c.ask_at.ensures.size.threads))
-    ∙ ap (wait_begun sources (world_of d) t m owner) (c.ask_at.ensures.details has.thread)
+    c.wait.ensures.details (omega (arith, has, c.ask_at.ensures.size.threads))
+    ∙ ap (wait_begun sources (world_of d) t m owner) (c.ask_at.ensures.details has)
     ∙ ap (λ w. wait_begun sources w t m owner there) c.ask_at.ensures.still.world
     ∙ ap (λ o. wait_begun sources (world_of old) t m o there) (c.first_other-owner.ensures.first
     ∙ ap (λ (z : CourseMutex). first_other t (z.owner ∷ z.last_owner ∷ [])) c.mutex-is.ensures)
