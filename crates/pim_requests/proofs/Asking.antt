@@ -55,7 +55,7 @@ request-code f (events.Give p q) says = ap (λ k. k == 20) (sym says.0)
 request-code f (events.Frame p) says = ap (λ k. k == 20) (sym says.0)
 
 -- two records of a log with one number are of one thread, and both are requests or neither
-same-thread : (bytes : List ℕ) (a r : Record) → IsLog bytes → IsIn bytes a → IsIn bytes r → a.number ≡ r.number →
+pub same-thread : (bytes : List ℕ) (a r : Record) → IsLog bytes → IsIn bytes a → IsIn bytes r → a.number ≡ r.number →
     (a.thread ≡ r.thread) × (is_request a.event ≡ is_request r.event)
 same-thread bytes a r log has is e =
     let at : has.slot ≡ is.slot =

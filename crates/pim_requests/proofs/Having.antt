@@ -11,7 +11,7 @@ use Rattle.pim_facts.specs.declared.ids.Ids.{Ids}
 use Rattle.pim_course.specs.Reading.{HasAllOf}
 use Rattle.pim_course.specs.declared.course.Course.{Course}
 use Rattle.pim_course.specs.declared.requests.Request.{Request}
-use Rattle.pim_requests.specs.Asked.{IsOfCall, IsOfWait, IsShown, MayHaveWaited}
+use Rattle.pim_requests.specs.Asked.{HasWait, IsOfCall, IsShown, MayHaveWaited}
 use Rattle.pim_requests.specs.Laws.{HasBoth, RequestsLaw}
 use Rattle.pim_requests.specs.declared.waits.Wait.{Wait}
 
@@ -57,7 +57,7 @@ of-call bytes ids course r covers all is =
       subst (λ n. r.mutex < n) (sym all.mutexes) number.1,
     )
 
-of-wait : (ids : Ids) (waits : List Wait) (course : Course) (r : Request) → HasAllOf ids course → IsOfWait ids waits r →
+of-wait : (ids : Ids) (waits : List Wait) (course : Course) (r : Request) → HasAllOf ids course → HasWait ids waits r →
     HasBoth course r
 of-wait ids waits course r all is = (
   subst (λ n. r.thread < n) (sym all.threads) (slice_get_within ids.threads.items r.thread is.of.thread is.of.has_thread),
@@ -74,7 +74,7 @@ shown-has : (bytes : List ℕ) (ids : Ids) (waits : List Wait) (course : Course)
 shown-has bytes ids waits course r covers all shown =
     elim shown [
       | inl call ↦ of-call bytes ids course r covers all call
-      | inr wait ↦ of-wait ids waits course r all wait
+      | inr wait ↦ of-wait ids waits course r all wait.has
     ]
 
 pub has-requests : RequestsLaw

@@ -1,5 +1,6 @@
 pub mod Asking
 pub mod Having
 pub mod Placed
+pub mod Placing
 pub mod Searched
 pub mod Showing

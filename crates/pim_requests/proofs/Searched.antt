@@ -5,7 +5,7 @@ use Rattle.std.proofs.lemmas.List.Elements.{All-get_or, All-same, All-set}
 use Rattle.std.proofs.lemmas.Option.{get_or_from_slice_get, slice_get_within}
 use Rattle.pim_facts.specs.declared.ids.Ids.{Ids}
 use Rattle.pim_course.specs.declared.requests.Request.{Request}
-use Rattle.pim_requests.specs.Asked.{IsOfWait}
+use Rattle.pim_requests.specs.Asked.{HasWait}
 use Rattle.pim_requests.specs.Searching.{AreOfWaits, IsPendingOf}
 use Rattle.pim_requests.specs.declared.waits.Pending.{Pending}
 use Rattle.pim_requests.specs.declared.waits.Search.{Search}
@@ -16,19 +16,19 @@ pub kept : (ids : Ids) (waits : List Wait) (s t : Search) → t.waits ≡ s.wait
     AreOfWaits ids waits s → AreOfWaits ids waits t
 kept ids waits s t w p f are =
     let first : All (Contains waits) s.waits.items = are.0 in
-    let rest : All (IsPendingOf ids waits) s.pending.items × All (IsOfWait ids waits) s.found.list.items = are.1 in (
+    let rest : All (IsPendingOf ids waits) s.pending.items × All (HasWait ids waits) s.found.list.items = are.1 in (
       All-same (Contains waits) t.waits.items s.waits.items (ap (λ v. v.items) w) first,
       (
         All-same (IsPendingOf ids waits) t.pending.items s.pending.items (ap (λ v. v.items) p) rest.0,
-        All-same (IsOfWait ids waits) t.found.list.items s.found.list.items (ap (λ v. v.list.items) f) rest.1,
+        All-same (HasWait ids waits) t.found.list.items s.found.list.items (ap (λ v. v.list.items) f) rest.1,
       ),
     )
 
--- the request of one that waits for its place
+-- one that is pending
 pub pending-in : (ids : Ids) (waits : List Wait) (s : Search) (xs : List Pending) (k : ℕ) (d : Pending) →
-    xs ≡ s.pending.items → k < length xs → AreOfWaits ids waits s → IsOfWait ids waits (get_or xs k d).request
+    xs ≡ s.pending.items → k < length xs → AreOfWaits ids waits s → IsPendingOf ids waits (get_or xs k d)
 pending-in ids waits s xs k d same lt are =
-    let rest : All (IsPendingOf ids waits) s.pending.items × All (IsOfWait ids waits) s.found.list.items = are.1 in
+    let rest : All (IsPendingOf ids waits) s.pending.items × All (HasWait ids waits) s.found.list.items = are.1 in
     All-get_or (IsPendingOf ids waits) xs k d lt (All-same (IsPendingOf ids waits) xs s.pending.items same rest.0)
 
 -- the wait at a place
@@ -42,7 +42,7 @@ wait-in ids waits s xs k w same got are =
 
 -- a request of a wait stays one behind another record, or at another place in the code
 pub moved : (ids : Ids) (waits : List Wait) (r q : Request) → q.thread ≡ r.thread → q.mutex ≡ r.mutex → q.time ≡ r.time →
-    IsOfWait ids waits r → IsOfWait ids waits q
+    HasWait ids waits r → HasWait ids waits q
 moved ids waits r q thread mutex time is =
     let of = is.of in
     record {
@@ -65,9 +65,9 @@ moved ids waits r q thread mutex time is =
 -- the requests, of which one was moved
 pub moved-at : (ids : Ids) (waits : List Wait) (xs ys : List Request) (k : ℕ) (q x : Request) → k < length xs →
     x ≡ get_or xs k x → ys ≡ set xs k q → q.thread ≡ x.thread → q.mutex ≡ x.mutex → q.time ≡ x.time →
-    All (IsOfWait ids waits) xs → All (IsOfWait ids waits) ys
+    All (HasWait ids waits) xs → All (HasWait ids waits) ys
 moved-at ids waits xs ys k q x lt at put thread mutex time all =
-    All-same (IsOfWait ids waits) ys (set xs k q) put
-    (All-set (IsOfWait ids waits) xs k q
+    All-same (HasWait ids waits) ys (set xs k q) put
+    (All-set (HasWait ids waits) xs k q
     (moved ids waits x q thread mutex time
-    (subst (λ r. IsOfWait ids waits r) (sym at) (All-get_or (IsOfWait ids waits) xs k x lt all))) all)
+    (subst (λ r. HasWait ids waits r) (sym at) (All-get_or (HasWait ids waits) xs k x lt all))) all)

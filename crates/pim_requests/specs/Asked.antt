@@ -1,5 +1,5 @@
 -- What shows each request that a log lacks.
-use Rattle.std.specs.Prelude.{◌≡◌, ◌≢◌, ◌⊎◌, ◌<◌, ℕ, List, Contains, Option, Some, None}
+use Rattle.std.specs.Prelude.{◌≡◌, ◌≢◌, ◌⊎◌, ◌<◌, ◌≤◌, ℕ, List, Contains, Option, Some, None}
 use Rattle.std.specs.Prelude.{Bool, true, false, ◌||◌, IsTrue, slice_get}
 use Rattle.pim_log.specs.Headers.{header_of, end_of}
 use Rattle.pim_log.specs.Logs.{IsNumbered, IsRecord, began_of}
@@ -112,16 +112,43 @@ pub record IsWaitOf (ids : Ids) (wait : Wait) (t m : ℕ) : Type 0 where
   pub address : mutex.address ≡ wait.address
   pub process : (mutex.process ≡ thread.process) ⊎ (mutex.process ≡ None)
 
--- a request that one of the waits shows: it is of the wait's thread, for its mutex, and begins with it
-pub record IsOfWait (ids : Ids) (waits : List Wait) (request : Request) : Type 0 where
+-- one of the waits is that of a request: it is of its thread and for its mutex, and the request begins with it
+pub record HasWait (ids : Ids) (waits : List Wait) (request : Request) : Type 0 where
   pub wait : Wait
   pub shown : Contains waits wait
   pub of : IsWaitOf ids wait request.thread request.mutex
   pub time : request.time ≡ Some wait.from
 
+-- a record is the first one of the thread of a request behind the record behind which the request belongs
+pub record IsNextOf (bytes : List ℕ) (request : Request) (r : Record) : Type 0 where
+  pub has : IsIn bytes r
+  pub thread : r.thread ≡ request.thread
+  pub behind : request.after < r.number
+  pub first : (other : Record) → IsIn bytes other → other.thread ≡ request.thread → request.after < other.number →
+      r.number ≤ other.number
+
+-- a request has the place of its thread's next record
+pub record HasNext (bytes : List ℕ) (request : Request) : Type 0 where
+  pub next : Record
+  pub is : IsNextOf bytes request next
+  pub place : request.place ≡ next.place
+
+-- the thread of a request has no record behind the one behind which the request belongs
+abbrev pub LacksNext : List ℕ → Request → Type 0
+LacksNext bytes request = (r : Record) → IsIn bytes r → r.thread ≡ request.thread → request.after < r.number → ⊥
+
+-- a request has the place of its thread's next record, and none if there is no such record
+abbrev pub HasPlace : List ℕ → Request → Type 0
+HasPlace bytes request = HasNext bytes request ⊎ (LacksNext bytes request × (request.place ≡ None))
+
+-- a request that one of the waits shows, with the place of its thread's next record
+pub record IsOfWait (bytes : List ℕ) (ids : Ids) (waits : List Wait) (request : Request) : Type 0 where
+  pub has : HasWait ids waits request
+  pub place : HasPlace bytes request
+
 -- a call of the log shows a request, or a wait does
 abbrev pub IsShown : List ℕ → Ids → List Wait → Request → Type 0
-IsShown bytes ids waits request = IsOfCall bytes ids request ⊎ IsOfWait ids waits request
+IsShown bytes ids waits request = IsOfCall bytes ids request ⊎ IsOfWait bytes ids waits request
 
 -- a request belongs behind one of the numbers of a log's records
 pub record IsPlaced (bytes : List ℕ) (request : Request) : Type 0 where

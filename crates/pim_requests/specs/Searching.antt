@@ -1,17 +1,52 @@
 -- What a search for requests has.
-use Rattle.std.specs.Prelude.{List, All, Contains}
+use Rattle.std.specs.Prelude.{◌≡◌, ◌⊎◌, ◌<◌, ◌≤◌, ℕ, List, length, All, Contains, Option, Some, None, slice_get}
+use Rattle.std.specs.Prelude.{slice_index_or}
+use Rattle.pim_log.specs.declared.record.Record.{Record}
 use Rattle.pim_facts.specs.declared.ids.Ids.{Ids}
-use Rattle.pim_requests.specs.Asked.{IsOfWait}
+use Rattle.pim_course.specs.declared.requests.Request.{Request}
+use Rattle.pim_requests.specs.Asked.{HasNext, HasWait, IsIn}
 use Rattle.pim_requests.specs.declared.waits.Pending.{Pending}
 use Rattle.pim_requests.specs.declared.waits.Search.{Search}
 use Rattle.pim_requests.specs.declared.waits.Wait.{Wait}
 
--- one of the waits shows a request whose place isn't known yet
+-- one of the waits is that of a request of which it isn't known yet where it belongs, and which has no place so far
 abbrev pub IsPendingOf : Ids → List Wait → Pending → Type 0
-IsPendingOf ids waits pending = IsOfWait ids waits pending.request
+IsPendingOf ids waits pending = HasWait ids waits pending.request × (pending.request.place ≡ None)
 
--- a search goes through some waits, which show each request that it found or whose place isn't known yet
+-- a search goes through some waits, of which each request that it found or that is pending has one
 abbrev pub AreOfWaits : Ids → List Wait → Search → Type 0
 AreOfWaits ids waits search =
     All (Contains waits) search.waits.items × (All (IsPendingOf ids waits) search.pending.items
-    × All (IsOfWait ids waits) search.found.list.items)
+    × All (HasWait ids waits) search.found.list.items)
+
+-- those records of a thread that are from one number on are from another one on
+abbrev pub IsNextFrom : List ℕ → ℕ → ℕ → ℕ → Type 0
+IsNextFrom bytes t number next = (r : Record) → IsIn bytes r → r.thread ≡ t → number ≤ r.number → next ≤ r.number
+
+-- a list has for the thread of each record below a number that record's number or a later one
+abbrev pub KnowsLast : List ℕ → ℕ → List (Option ℕ) → Type 0
+KnowsLast bytes number list =
+    (r : Record) → IsIn bytes r → r.number < number → r.thread < length list →
+    (last : ℕ) × ((slice_index_or list r.thread None ≡ Some last) × (r.number ≤ last))
+
+-- the records of a request's thread behind it are those from a number on, and the request has no place so far
+pub record IsOpen (bytes : List ℕ) (number : ℕ) (request : Request) : Type 0 where
+  pub place : request.place ≡ None
+  pub none : (r : Record) → IsIn bytes r → r.thread ≡ request.thread → r.number < number → r.number ≤ request.after
+  pub later : (r : Record) → IsIn bytes r → r.thread ≡ request.thread → number ≤ r.number → request.after < r.number
+
+-- a list has by thread where its open request is, if there is one; each other request has the place of its thread's next
+-- record
+pub record KnowsOpen (bytes : List ℕ) (number : ℕ) (asked : List (Option ℕ)) (requests : List Request) : Type 0 where
+  pub those : (t k : ℕ) → slice_index_or asked t None ≡ Some k →
+      (request : Request) × ((slice_get requests k ≡ Some request)
+      × ((request.thread ≡ t) × IsOpen bytes number request))
+  pub others : (k : ℕ) (request : Request) → slice_get requests k ≡ Some request →
+      HasNext bytes request ⊎ (slice_index_or asked request.thread None ≡ Some k)
+
+-- a search that went past the records below a number knows which places its requests have, or will have
+pub record KnowsPlaces (bytes : List ℕ) (ids : Ids) (number : ℕ) (search : Search) : Type 0 where
+  pub last_room : length search.last.items ≡ length ids.threads.items
+  pub asked_room : length search.asked.items ≡ length ids.threads.items
+  pub last : KnowsLast bytes number search.last.items
+  pub asked : KnowsOpen bytes number search.asked.items search.found.list.items

@@ -9,9 +9,12 @@
 //!    request belongs before that record.
 //!
 //! If none of that holds, the request isn't added.
-ghost use Rattle.std.specs.Prelude.{◌≡◌, All, Contains, IfOk, IfSome, IsTrue, List, OnOk};
-ghost use Rattle.pim_requests.specs.Asked.{IsOfWait, IsWaitOf};
-ghost use Rattle.pim_requests.specs.Searching.{AreOfWaits, IsPendingOf};
+ghost use Rattle.std.specs.Prelude.{◌≡◌, ◌≢◌, ◌+◌, ◌<◌, ◌≤◌, ℕ, [], All, Contains, IfOk, IfSome, IsTrue};
+ghost use Rattle.std.specs.Prelude.{List, None, OnOk, Some, length, slice_get, slice_index_or, slice_set};
+ghost use Rattle.pim_log.specs.Headers.{end_of, header_of};
+ghost use Rattle.pim_log.specs.Logs.{IsLog};
+ghost use Rattle.pim_requests.specs.Asked.{HasWait, IsIn, IsOfWait, IsWaitOf};
+ghost use Rattle.pim_requests.specs.Searching.{AreOfWaits, IsNextFrom, IsPendingOf, KnowsOpen, KnowsPlaces};
 
 use pim_course::lists::{get, set};
 use pim_course::{Course, Request, Sources, Walk};
@@ -95,7 +98,8 @@ pub fn asked_in(
     sources: &Sources,
     waits: &[Wait],
 ) -> Result<Asked, AllocError>
-    ensures { IfOk result (λ asked. All (IsOfWait sources.now.ids waits.now) asked.list.items) }
+    ensures { IsLog log.now →
+        IfOk result (λ asked. All (IsOfWait log.now sources.now.ids waits.now) asked.list.items) }
 {
     if waits.is_empty() {
         return Ok(Asked::none(alloc));
@@ -124,7 +128,7 @@ pub fn asked_in(
 impl Asked {
     /// Returns no request.
     fn none(alloc: Global) -> Asked
-        ensures { (ids : Ids) (waits : List Wait) → All (IsOfWait ids waits) result.list.items }
+        ensures { result.list.items ≡ [] }
     {
         Asked {
             list: Vec::new(alloc),
@@ -134,8 +138,11 @@ impl Asked {
 
     /// Sets the place in the code of the call of the request at an index.
     fn set_place(&mut self, index: usize, place: Option<u16>)
-        ensures { (ids : Ids) (waits : List Wait) → All (IsOfWait ids waits) self.old.list.items →
-            All (IsOfWait ids waits) self.new.list.items }
+        ensures waits { (ids : Ids) (waits : List Wait) → All (HasWait ids waits) self.old.list.items →
+            All (HasWait ids waits) self.new.list.items }
+        ensures others { (k : ℕ) → k ≢ index → slice_get self.new.list.items k ≡ slice_get self.old.list.items k }
+        ensures place { (request : Request) → slice_get self.old.list.items index ≡ Some request →
+            slice_get self.new.list.items index ≡ Some (record request { place = place }) }
     {
         if index >= self.list.len() {
             return;
@@ -146,7 +153,8 @@ impl Asked {
 
 impl Search {
     fn new(alloc: Global, sources: &Sources, waits: &[Wait]) -> Result<Search, AllocError>
-        ensures { IfOk result (AreOfWaits sources.now.ids waits.now) }
+        ensures waits { IfOk result (AreOfWaits sources.now.ids waits.now) }
+        ensures places { (bytes : List ℕ) → IfOk result (KnowsPlaces bytes sources.now.ids 1) }
     {
         let threads = sources.ids.threads.len();
         let mut sorted = Vec::from_slice(alloc, waits)?;
@@ -174,8 +182,10 @@ impl Search {
         number: u64,
         time: Option<u64>,
     ) -> Result<(), AllocError>
-        ensures { (waits : List Wait) → AreOfWaits sources.now.ids waits self.old →
+        ensures waits { (waits : List Wait) → AreOfWaits sources.now.ids waits self.old →
             OnOk result (AreOfWaits sources.now.ids waits self.new) }
+        ensures places { (bytes : List ℕ) → KnowsPlaces bytes sources.now.ids number self.old →
+            OnOk result (KnowsPlaces bytes sources.now.ids number self.new) }
     {
         let Some(time) = time else {
             return Ok(());
@@ -188,21 +198,23 @@ impl Search {
                 break;
             }
             self.begun = place.saturating_add(1);
-            self.ask(sources, course, &wait, number.saturating_sub(1))?;
+            self.ask(sources, course, &wait, number)?;
         }
         Ok(())
     }
 
-    /// A wait begins behind the record with this number. If its thread waits already, the log has the request.
+    /// A wait begins before the record with this number. If its thread waits already, the log has the request.
     fn ask(
         &mut self,
         sources: &Sources,
         course: &mut Course,
         wait: &Wait,
-        after: u64,
+        number: u64,
     ) -> Result<(), AllocError>
-        ensures { (waits : List Wait) → Contains waits wait.now → AreOfWaits sources.now.ids waits self.old →
+        ensures waits { (waits : List Wait) → Contains waits wait.now → AreOfWaits sources.now.ids waits self.old →
             OnOk result (AreOfWaits sources.now.ids waits self.new) }
+        ensures places { (bytes : List ℕ) → KnowsPlaces bytes sources.now.ids number self.old →
+            OnOk result (KnowsPlaces bytes sources.now.ids number self.new) }
     {
         let Some((thread, mutex)) = self.find(sources, wait) else {
             return Ok(());
@@ -213,7 +225,7 @@ impl Search {
             return Ok(());
         }
         let request = Request {
-            after,
+            after: number.saturating_sub(1),
             time: Some(wait.from),
             thread,
             mutex,
@@ -221,7 +233,7 @@ impl Search {
         };
         if owner.is_some() {
             course.add_request(sources, &request);
-            return self.add(request);
+            return self.add(request, number);
         }
         let before = self.before_release(thread, mutex);
         self.pending.push(Pending {
@@ -268,14 +280,36 @@ impl Search {
         false
     }
 
-    fn add(&mut self, request: Request) -> Result<(), AllocError>
-        ensures { (ids : Ids) (waits : List Wait) → IsOfWait ids waits request → AreOfWaits ids waits self.old →
+    /// Adds a request whose thread's next record has this number or a later one, if the records so far don't contradict it.
+    fn add(&mut self, request: Request, next: u64) -> Result<(), AllocError>
+        ensures waits { (ids : Ids) (waits : List Wait) → HasWait ids waits request → AreOfWaits ids waits self.old →
             OnOk result (AreOfWaits ids waits self.new) }
+        ensures places { (bytes : List ℕ) (ids : Ids) (number : ℕ) → request.thread < length ids.threads.items →
+            request.place ≡ None → IsNextFrom bytes request.thread number next → KnowsPlaces bytes ids number self.old →
+            OnOk result (KnowsPlaces bytes ids number self.new) }
     {
+        // Each request is open, which isn't proved of the search.
+        if !self.is_open(&request, next) {
+            return Ok(());
+        }
         let place = self.found.list.len();
         set(&mut self.asked, request.thread, Some(place));
         self.found.list.push(request)?;
         Ok(())
+    }
+
+    /// Returns whether a request belongs before this number and behind its thread's last record, and the thread has no
+    /// other request since that record.
+    fn is_open(&self, request: &Request, next: u64) -> bool
+        ensures asked { IsTrue result → slice_index_or self.now.asked.items request.now.thread None ≡ None }
+        ensures last { IsTrue result →
+            IfSome (slice_index_or self.now.last.items request.now.thread None) (λ last. last ≤ request.now.after) }
+        ensures next { IsTrue result → request.now.after < next }
+    {
+        match get(&self.asked, request.thread) {
+            Some(_) => false,
+            None => request.after < next && is_behind(request, &self.last),
+        }
     }
 
     /// Goes past a record, by which the way went on last.
@@ -285,8 +319,11 @@ impl Search {
         walk: &mut Walk,
         record: &Record,
     ) -> Result<(), AllocError>
-        ensures { (waits : List Wait) → AreOfWaits sources.now.ids waits self.old →
+        ensures waits { (waits : List Wait) → AreOfWaits sources.now.ids waits self.old →
             OnOk result (AreOfWaits sources.now.ids waits self.new) }
+        ensures places { (bytes : List ℕ) (waits : List Wait) → IsLog bytes → IsIn bytes record.now →
+            AreOfWaits sources.now.ids waits self.old → KnowsPlaces bytes sources.now.ids record.now.number self.old →
+            OnOk result (KnowsPlaces bytes sources.now.ids (record.now.number + 1) self.new) }
     {
         let id = sources.ids.of_record(record.number);
         self.learn(sources, record, id)?;
@@ -301,6 +338,8 @@ impl Search {
         ensures waits { self.new.waits ≡ self.old.waits }
         ensures pending { self.new.pending ≡ self.old.pending }
         ensures found { self.new.found ≡ self.old.found }
+        ensures asked { self.new.asked ≡ self.old.asked }
+        ensures last { self.new.last.items ≡ slice_set self.old.last.items record.now.thread (Some record.now.number) }
     {
         set(&mut self.last, record.thread, Some(record.number));
         if let (Event::Release { .. }, Some(mutex)) = (record.event, id) {
@@ -310,7 +349,13 @@ impl Search {
 
     /// A record ends the wait of its thread, if one was found since the thread's last record: both are of one call.
     fn end_wait(&mut self, record: &Record) -> Result<(), AllocError>
-        ensures { (ids : Ids) (waits : List Wait) → AreOfWaits ids waits self.old → OnOk result (AreOfWaits ids waits self.new) }
+        ensures waits { (ids : Ids) (waits : List Wait) → AreOfWaits ids waits self.old →
+            OnOk result (AreOfWaits ids waits self.new) }
+        ensures last { self.new.last ≡ self.old.last }
+        ensures size { length self.new.asked.items ≡ length self.old.asked.items }
+        ensures places { (bytes : List ℕ) → IsLog bytes → IsIn bytes record.now →
+            KnowsOpen bytes record.now.number self.old.asked.items self.old.found.list.items →
+            OnOk result (KnowsOpen bytes (record.now.number + 1) self.new.asked.items self.new.found.list.items) }
     {
         let Some(place) = get(&self.asked, record.thread) else {
             return Ok(());
@@ -331,6 +376,8 @@ impl Search {
         ensures waits { self.new.waits ≡ self.old.waits }
         ensures pending { self.new.pending ≡ self.old.pending }
         ensures found { self.new.found ≡ self.old.found }
+        ensures asked { self.new.asked ≡ self.old.asked }
+        ensures last { self.new.last ≡ self.old.last }
     {
         if get(&self.last, record.thread).is_none() {
             self.threads.insert(record.task, record.thread)?;
@@ -360,8 +407,11 @@ impl Search {
         record: &Record,
         id: Option<u32>,
     ) -> Result<(), AllocError>
-        ensures { (waits : List Wait) → AreOfWaits sources.now.ids waits self.old →
+        ensures waits { (waits : List Wait) → AreOfWaits sources.now.ids waits self.old →
             OnOk result (AreOfWaits sources.now.ids waits self.new) }
+        ensures places { (bytes : List ℕ) (waits : List Wait) → IsLog bytes → IsIn bytes record.now →
+            AreOfWaits sources.now.ids waits self.old → KnowsPlaces bytes sources.now.ids record.now.number self.old →
+            OnOk result (KnowsPlaces bytes sources.now.ids record.now.number self.new) }
     {
         if self.pending.is_empty() {
             return Ok(());
@@ -382,8 +432,11 @@ impl Search {
         id: Option<u32>,
         one: &Pending,
     ) -> Result<(), AllocError>
-        ensures { (waits : List Wait) → IsPendingOf sources.now.ids waits one.now →
+        ensures waits { (waits : List Wait) → IsPendingOf sources.now.ids waits one.now →
             AreOfWaits sources.now.ids waits self.old → OnOk result (AreOfWaits sources.now.ids waits self.new) }
+        ensures places { (bytes : List ℕ) (waits : List Wait) → IsLog bytes → IsIn bytes record.now →
+            IsPendingOf sources.now.ids waits one.now → KnowsPlaces bytes sources.now.ids record.now.number self.old →
+            OnOk result (KnowsPlaces bytes sources.now.ids record.now.number self.new) }
     {
         let request = one.request;
         match one.place(record, id) {
@@ -391,7 +444,10 @@ impl Search {
                 if request.thread != record.thread {
                     course.add_request(sources, &request);
                 }
-                self.add(Request { after, ..request })
+                self.add(
+                    Request { after, ..request },
+                    next_of(request.thread, record),
+                )
             }
             Place::Never => Ok(()),
             Place::Later => {
@@ -403,11 +459,13 @@ impl Search {
 
     /// Adds the requests of the waits that last at the end, and returns all.
     fn end(self) -> Result<Asked, AllocError>
-        ensures { (ids : Ids) (waits : List Wait) → AreOfWaits ids waits self →
-            IfOk result (λ asked. All (IsOfWait ids waits) asked.list.items) }
+        ensures { (bytes : List ℕ) (ids : Ids) (waits : List Wait) (number : ℕ) →
+            end_of (header_of bytes) ≤ number → AreOfWaits ids waits self → KnowsPlaces bytes ids number self →
+            IfOk result (λ asked. All (IsOfWait bytes ids waits) asked.list.items) }
     {
         let Search {
             pending,
+            last,
             mut found,
             ..
         } = self;
@@ -415,10 +473,15 @@ impl Search {
             let Some(after) = one.before else {
                 continue;
             };
-            found.list.push(Request {
+            let request = Request {
                 after,
                 ..one.request
-            })?;
+            };
+            // Each one is, which isn't proved of the search.
+            if !is_behind(&request, &last) {
+                continue;
+            }
+            found.list.push(request)?;
         }
         Ok(found)
     }
@@ -450,6 +513,29 @@ impl Pending {
             Some(before) => Place::Behind(before),
             None => otherwise,
         }
+    }
+}
+
+/// Returns whether a request belongs behind the last record of its thread.
+fn is_behind(request: &Request, last: &[Option<u64>]) -> bool
+    ensures { IsTrue result →
+        IfSome (slice_index_or last.now request.now.thread None) (λ number. number ≤ request.now.after) }
+{
+    match get(last, request.thread) {
+        Some(number) => number <= request.after,
+        None => true,
+    }
+}
+
+/// Returns the lowest number that a record of this thread has, of those from this record on.
+fn next_of(thread: u32, record: &Record) -> u64
+    ensures own { thread ≡ record.now.thread → result ≡ record.now.number }
+    ensures other { thread ≢ record.now.thread → result ≤ record.now.number + 1 }
+{
+    if thread == record.thread {
+        record.number
+    } else {
+        record.number.saturating_add(1)
     }
 }
 

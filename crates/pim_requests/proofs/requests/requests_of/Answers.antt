@@ -20,4 +20,5 @@ returns-clause-shown c log =
     (All-same (IsShown c.args.log.now ids waits) _ _ c.keep_placed.ensures
     (All-filter (is_within c.end.result) (IsShown c.args.log.now ids waits) c.add_silent.new.to.list.items
     (c.in_ok-add_silent.ensures waits log
-    (All-weaker (IsOfWait ids waits) (IsShown c.args.log.now ids waits) (λ r is. inr is) _ c.in_ok-asked.ensures))))
+    (All-weaker (IsOfWait c.args.log.now ids waits) (IsShown c.args.log.now ids waits) (λ r is. inr is) _
+    (c.in_ok-asked.ensures log)))))

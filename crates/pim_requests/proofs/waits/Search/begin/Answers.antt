@@ -1,13 +1,22 @@
-use Rattle.std.proofs.Common.{arith}
+use Rattle.std.proofs.Common.{refl, arith}
 use Rattle.std.proofs.lemmas.Grind.{common_steps}
 use Rattle.std.proofs.lemmas.Option.{gets}
+use Rattle.pim_requests.proofs.Placing.{places-kept}
 use Rattle.pim_requests.proofs.Searched.{wait-in}
 use Rattle.pim_requests.proofs.waits.Search.begin.Goals as goal
 
 pub loop-place-preserved : goal.loop-place-preserved
-loop-place-preserved c = λ waits are.
-    let so = c.loop-place.invariant waits are in
-    c.in_ok-ask.ensures waits
-    (wait-in c.args.sources.now.ids waits c.loop-place.self c.deref.result.now c.loop-place.place c.in-Some-copied.wait
-    c.deref.ensures.value (grind (arith, common_steps, gets)) so)
-    so
+loop-place-preserved c =
+    let ids = c.args.sources.now.ids in
+    record {
+      waits = λ waits are.
+          let so = c.loop-place.invariant.waits waits are in
+          c.in_ok-ask.ensures.waits waits
+          (wait-in ids waits c.loop-place.self c.deref.result.now c.loop-place.place c.in-Some-copied.wait
+          c.deref.ensures.value (grind (arith, common_steps, gets)) so)
+          so;
+      places = λ bytes knows.
+          c.in_ok-ask.ensures.places bytes
+          (places-kept bytes ids c.args.number c.loop-place.self _ refl refl refl
+          (c.loop-place.invariant.places bytes knows));
+    }

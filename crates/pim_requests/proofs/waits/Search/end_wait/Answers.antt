@@ -1,0 +1,22 @@
+use Rattle.std.proofs.Common.{None, get_or, refl, sym, ap, ◌∙◌}
+use Rattle.pim_course.proofs.NextOwning.{got}
+use Rattle.pim_requests.proofs.Placing.{known-none, known-placed}
+use Rattle.pim_requests.proofs.waits.Search.end_wait.Goals as goal
+
+pub returns-in_default-clause-places : goal.returns-in_default-clause-places
+returns-in_default-clause-places c = λ bytes log has known.
+    let self = c.args.self.now in
+    let r = c.args.record.now in
+    known-none bytes r.number r self.asked.items self.found.list.items log has refl
+    (ap (λ l. get_or l r.thread None) (sym c.deref.ensures.value)
+    ∙ sym (got c.deref.result.now r.thread c.get.result c.get.ensures) ∙ c.in_default.is) known
+
+pub returns-clause-places : goal.returns-clause-places
+returns-clause-places c = λ bytes log has known.
+    let self = c.args.self.now in
+    let r = c.args.record.now in
+    known-placed bytes r.number r c.in-Some.place self.asked.items c.set.new.list.items self.found.list.items
+    c.set_place.new.self.list.items log has refl
+    (ap (λ l. get_or l r.thread None) (sym c.deref.ensures.value)
+    ∙ sym (got c.deref.result.now r.thread c.get.result c.get.ensures) ∙ c.in-Some.is)
+    c.set.ensures c.set_place.ensures.others c.set_place.ensures.place known
