@@ -1,5 +1,5 @@
 -- A trace that shows facts, as it goes on.
-use Rattle.std.proofs.Common.{◌≡◌, ◌∙◌, refl, sym, ap, subst, inl, inr, ℕ, ◌≤◌, List, [], ◌∷◌, ◌++◌, All, Option, Some}
+use Rattle.std.proofs.Common.{◌≡◌, ◌∙◌, refl, sym, ap, ap₂, subst, inl, inr, ℕ, ◌≤◌, List, [], ◌∷◌, ◌++◌, All, Option, Some}
 use Rattle.std.proofs.Common.{Bool, true, false, IsTrue, append_assoc, length, arith}
 use Rattle.std.proofs.lemmas.List.{append-nil}
 use Rattle.std.proofs.lemmas.List.Elements.{All-append, All-cons, All-nil, All-weaker}
@@ -8,11 +8,12 @@ use Rattle.pim_facts.specs.declared.fact.Fact.{Fact}
 use Rattle.pim_replay.specs.Priorities.{priority_of}
 use Rattle.pim_replay.specs.declared.piece.Piece.{Piece}
 use Rattle.pim_replay.specs.Replays.{ReplayState}
+use Rattle.pim_builder.specs.Frames.{KeepsOthers, program_at, view_of}
 use Rattle.pim_builder.specs.Pieces.{Point, GoesOn, EndWith, HasTimes, steps_of}
 use Rattle.pim_builder.specs.Showing.{number_in, held, ShowsWhat, SetsNone, Shows, task_now, mutex_now}
 use Rattle.pim_builder.specs.Shown.{as_thread, as_mutex, given_to, taken_by, holders_after, nobody, threads_after}
 use Rattle.pim_builder.specs.Shown.{mutexes_after, Dated, Stage, AppearsBetween, LeadsTo}
-use Rattle.pim_builder.specs.Shown.{IsShownAt, AreShownBy, AreShownIn, stage_of, HasHolders, AreShown, Extends}
+use Rattle.pim_builder.specs.Shown.{IsShownAt, AreShownBy, AreShownIn, stage_of, view_at, HasHolders, AreShown, Extends}
 use Rattle.pim_builder.specs.declared.builder.Appearance.{Appearance}
 use Rattle.pim_builder.specs.declared.builder.Context.{Context}
 use Rattle.pim_builder.specs.declared.builder.TraceBuilder.{TraceBuilder}
@@ -221,16 +222,21 @@ timed_by : (context : Context) (facts : List Dated) (now : Stage) → AreShownBy
 timed_by context [] now begin = ap (λ ts. length ts) begin.times ∙ sym (ap (λ es. length es) begin.steps)
 timed_by context (latest ∷ facts) now shown = shown.3
 
+-- who has the numbers is who appeared last with them
+view_by : (context : Context) (b : TraceBuilder) → HasHolders context b → view_of b ≡ view_at context (stage_of b)
+view_by context b h = ap₂ (λ ts ms. record { threads = ts; mutexes = ms; program = program_at b.pieces }) h.threads h.mutexes
+
 -- one fact more
 pub shown_more :
     (context : Context) (fact : Fact) (time : ℕ) (a b : TraceBuilder) (is_used : Bool)
     → Extends context time a b
     → (IsTrue is_used → Shows context b fact)
     → (is_used ≡ false → SetsNone (task_now context b) (mutex_now context b) fact.what fact.thread)
+    → KeepsOthers context fact (view_of a) (view_of b)
     → (facts : List Dated)
     → AreShown context facts a
     → AreShown context (record { fact = fact; time = time } ∷ facts) b
-shown_more context fact time a b is_used extends shows unset facts shown =
+shown_more context fact time a b is_used extends shows unset keeps facts shown =
     record {
       holders = extends.holders shown.holders;
       shown = (
@@ -239,6 +245,8 @@ shown_more context fact time a b is_used extends shows unset facts shown =
         extends.leads,
         extends.leads.point.timed (timed_by context facts (stage_of a) shown.shown),
         is_shown is_used shows unset,
+        subst (λ v. KeepsOthers context fact v (view_at context (stage_of b))) (view_by context a shown.holders)
+            (subst (KeepsOthers context fact (view_of a)) (view_by context b (extends.holders shown.holders)) keeps),
       );
     }
   where

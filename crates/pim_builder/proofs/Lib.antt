@@ -1,3 +1,5 @@
 pub mod Joining
 pub mod GoingOn
 pub mod Extending
+pub mod Framing
+pub mod Entering

@@ -1,4 +1,5 @@
 pub mod Faults
 pub mod Showing
 pub mod Pieces
+pub mod Frames
 pub mod Shown

@@ -5,6 +5,7 @@ use Rattle.pim_base.specs.Lists.{put}
 use Rattle.pim_facts.specs.declared.fact.Fact.{Fact}
 use Rattle.pim_replay.specs.Priorities.{priority_of}
 use Rattle.pim_replay.specs.declared.piece.Piece.{Piece}
+use Rattle.pim_builder.specs.Frames.{KeepsOthers, View, program_at}
 use Rattle.pim_builder.specs.Pieces.{Point, GoesOn, EndWith, HasTimes, steps_of}
 use Rattle.pim_builder.specs.Showing.{number_in, held, ShowsWhat, SetsNone}
 use Rattle.pim_builder.specs.declared.builder.Appearance.{Appearance}
@@ -97,13 +98,21 @@ IsShownAt context fact stage =
     fact.what fact.thread
     ⊎ SetsNone (task_at context stage) (mutex_at context stage) fact.what fact.thread
 
+-- who has the numbers at a stage, and the program
+abbrev pub view_at : Context → Stage → View
+view_at context stage = record {
+  threads = threads_after context stage.appeared;
+  mutexes = mutexes_after context stage.appeared;
+  program = program_at stage.point;
+}
+
 -- A trace comes from its begin to this stage by these facts, the latest first: from the stage of the one before the latest,
--- or from the begin, by steps at the time of the latest, which is shown here.
+-- or from the begin, by steps at the time of the latest, which is shown here. What this fact isn't about stays.
 abbrev pub AreShownBy : Context → List Dated → Stage → Type 0
 AreShownBy context [] now = IsBegin now
 AreShownBy context (latest ∷ facts) now =
     (before : Stage) × AreShownBy context facts before × LeadsTo latest.time before now × HasTimes now.point.piece
-    × IsShownAt context latest.fact now
+    × IsShownAt context latest.fact now × KeepsOthers context latest.fact (view_at context before) (view_at context now)
 
 -- the same of the pieces of a trace and of all who appear in it: it ends at the stage of the latest fact
 abbrev pub AreShownIn : Context → List Dated → List Piece → List Appearance → Type 0

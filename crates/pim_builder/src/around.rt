@@ -1,6 +1,10 @@
 //! The steps that go before and after those of a fact, so that the model allows it.
-ghost use Rattle.std.specs.Prelude.{IfErr, IfOk};
+ghost use Rattle.std.specs.Prelude.{◌≡◌, All, IfErr, IfOk, IfSome, Some, map};
+ghost use Rattle.pim_base.specs.Lists.{nth};
+ghost use Rattle.pim_replay.specs.Replays.{IsSame};
+ghost use Rattle.pim_replay.specs.declared.observation.Observation.TheVariants as observation;
 ghost use Rattle.pim_builder.specs.Faults.{NamesOnly};
+ghost use Rattle.pim_builder.specs.Frames.{ChangesBy, OnlyClears, OnlyLeaves, all_observed, program_at};
 ghost use Rattle.pim_builder.specs.Pieces.{GoesOn};
 
 use crate::builder::Now;
@@ -20,6 +24,8 @@ impl Pieces {
         next: Option<TaskNo>,
         now: &Now,
     ) -> Result<(), ImportFault>
+        ensures only { IfOk result (λ _.
+            ChangesBy (observation.Released task mutex next) (program_at self.old) (program_at self.new)) }
         ensures on { IfOk result (λ _. GoesOn now.now.time self.old self.new) }
         ensures fault { IfErr result (NamesOnly now.now.number) }
     {
@@ -36,6 +42,8 @@ impl Pieces {
         ceiling: Prio,
         now: &Now,
     ) -> Result<(), ImportFault>
+        ensures only { IfOk result (λ _.
+            ChangesBy (observation.Ceiling mutex ceiling) (program_at self.old) (program_at self.new)) }
         ensures on { IfOk result (λ _. GoesOn now.now.time self.old self.new) }
         ensures fault { IfErr result (NamesOnly now.now.number) }
     {
@@ -53,6 +61,8 @@ impl Pieces {
         prio: Prio,
         now: &Now,
     ) -> Result<(), ImportFault>
+        ensures only { IfOk result (λ _.
+            ChangesBy (observation.Base task prio) (program_at self.old) (program_at self.new)) }
         ensures on { IfOk result (λ _. GoesOn now.now.time self.old self.new) }
         ensures fault { IfErr result (NamesOnly now.now.number) }
     {
@@ -70,6 +80,8 @@ impl Pieces {
         ceiling: Prio,
         now: &Now,
     ) -> Result<(), ImportFault>
+        ensures only { IfOk result (λ _.
+            ChangesBy (observation.Ceiling mutex ceiling) (program_at self.old) (program_at self.new)) }
         ensures on { IfOk result (λ _. GoesOn now.now.time self.old self.new) }
         ensures fault { IfErr result (NamesOnly now.now.number) }
     {
@@ -89,12 +101,16 @@ impl Pieces {
         observation: &Observation,
         now: &Now,
     ) -> Result<(), ImportFault>
+        ensures only { IfOk result (λ _.
+            ChangesBy observation.now (program_at self.old) (program_at self.new)) }
         ensures on { IfOk result (λ _. GoesOn now.now.time self.old self.new) }
         ensures fault { IfErr result (NamesOnly now.now.number) }
     {
-        let Some((task, base, ceiling)) = self.above_ceiling(task, mutex) else {
+        let Some(above) = self.above_ceiling(task, mutex) else {
             return self.observe(observation, now);
         };
+        // The proof can't name the parts if the pattern above takes them.
+        let (task, base, ceiling) = above;
         self.observe(&Observation::Base(task, ceiling), now)?;
         self.observe(observation, now)?;
         self.observe(&Observation::Base(task, base), now)
@@ -102,7 +118,9 @@ impl Pieces {
 
     /// Returns a task that waits for a mutex outside of its queue, its priority, and the ceiling of the mutex, if that is
     /// lower.
-    fn above_ceiling(&self, task: &Option<TaskNo>, mutex: MutexNo) -> Option<(TaskNo, Prio, Prio)> {
+    fn above_ceiling(&self, task: &Option<TaskNo>, mutex: MutexNo) -> Option<(TaskNo, Prio, Prio)>
+        ensures { IfSome result (λ above. nth (program_at self.now).base above.0 ≡ Some above.1) }
+    {
         let task = (*task)?;
         let manager = self.replay().manager();
         let is_outside = manager.waits_for(task) == Some(None);
@@ -123,6 +141,11 @@ impl Pieces {
         task: Option<TaskNo>,
         now: &Now,
     ) -> Result<Vec<TicketedWait>, ImportFault>
+        ensures waited { IfOk result (λ waits.
+            All (λ w. (program_at self.old).awaits w.task ≡ Some w.mutex) waits.items) }
+        ensures stopped { IfOk result (λ waits.
+            IsSame (all_observed (program_at self.old) (map (λ w. observation.GaveUp w.task) waits.items))
+            (program_at self.new)) }
         ensures on { IfOk result (λ _. GoesOn now.now.time self.old self.new) }
         ensures fault { IfErr result (NamesOnly now.now.number) }
     {
@@ -134,11 +157,18 @@ impl Pieces {
     }
 
     /// Returns the waits in the queue of a task from its own on, in the order in which they began.
-    fn waits_from(&self, task: Option<TaskNo>) -> Result<Vec<TicketedWait>, AllocError> {
+    fn waits_from(&self, task: Option<TaskNo>) -> Result<Vec<TicketedWait>, AllocError>
+        ensures { IfOk result (λ waits.
+            All (λ w. (program_at self.now).awaits w.task ≡ Some w.mutex) waits.items) }
+    {
+        // By its contract the proof knows that the state is steady.
+        let _steady = self.replay().manager().tasks();
         let mut waits = Vec::new(self.alloc);
-        let Some((task, mutex)) = self.queue_of(task) else {
+        let Some(queued) = self.queue_of(task) else {
             return Ok(waits);
         };
+        // The proof can't name the parts if the pattern above takes them.
+        let (task, mutex) = queued;
         let Some(waiters) = self.replay().manager().waiters(mutex) else {
             return Ok(waits);
         };
@@ -172,6 +202,9 @@ impl Pieces {
     /// Lets tasks wait again.
     #[tactic(auto, using(crate::proofs::GoingOn::goes_on_refl))]
     fn put_back(&mut self, waits: &[TicketedWait], now: &Now) -> Result<(), ImportFault>
+        ensures again { IfOk result (λ _.
+            IsSame (all_observed (program_at self.old) (map (λ w. observation.Waits w.task w.mutex) waits.now))
+            (program_at self.new)) }
         ensures on { IfOk result (λ _. GoesOn now.now.time self.old self.new) }
         ensures fault { IfErr result (NamesOnly now.now.number) }
     {
@@ -185,6 +218,8 @@ impl Pieces {
     /// Ends the wait of a task, and releases its mutexes.
     #[tactic(auto, using(crate::proofs::GoingOn::goes_on_refl))]
     pub(crate) fn leave(&mut self, task: TaskNo, now: &Now) -> Result<(), ImportFault>
+        ensures only { IfOk result (λ _.
+            OnlyLeaves task (program_at self.old) (program_at self.new)) }
         ensures on { IfOk result (λ _. GoesOn now.now.time self.old self.new) }
         ensures fault { IfErr result (NamesOnly now.now.number) }
     {
@@ -202,6 +237,8 @@ impl Pieces {
 
     /// Lets all tasks that wait for a mutex give up, and its owner release it.
     pub(crate) fn clear(&mut self, mutex: MutexNo, now: &Now) -> Result<(), ImportFault>
+        ensures only { IfOk result (λ _.
+            OnlyClears mutex (program_at self.old) (program_at self.new)) }
         ensures on { IfOk result (λ _. GoesOn now.now.time self.old self.new) }
         ensures fault { IfErr result (NamesOnly now.now.number) }
     {
@@ -214,6 +251,8 @@ impl Pieces {
 
     /// Lets all tasks that wait for a mutex give up.
     fn end_waits(&mut self, mutex: MutexNo, now: &Now) -> Result<(), ImportFault>
+        ensures only { IfOk result (λ _.
+            OnlyClears mutex (program_at self.old) (program_at self.new)) }
         ensures on { IfOk result (λ _. GoesOn now.now.time self.old self.new) }
         ensures fault { IfErr result (NamesOnly now.now.number) }
     {

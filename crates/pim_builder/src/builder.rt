@@ -3,7 +3,9 @@ ghost use Rattle.std.specs.Prelude.{IfOk, IfErr, IsTrue, ◌≡◌, All, ℕ, Li
 ghost use Rattle.std.specs.Option.{option_and_then};
 ghost use Rattle.pim_base.specs.Lists.{holds};
 ghost use Rattle.pim_base.specs.Lists as lists;
+ghost use Rattle.pim_facts.specs.Shown.{mutex_of};
 ghost use Rattle.pim_builder.specs.Faults.{NamesNone, NamesOnly};
+ghost use Rattle.pim_builder.specs.Frames.{KeepsOthers, OnlyEntersMutex, OnlyEntersThread, view_of};
 ghost use Rattle.pim_builder.specs.Pieces.{AreJoined, EndWith, HasTimes};
 ghost use Rattle.pim_builder.specs.Showing.{IsSetting, SetsNone, Shows, holder_in, mutex_now, number_in, task_now};
 ghost use Rattle.pim_builder.specs.Shown.{AreShown, AreShownIn, Dated, Extends};
@@ -100,6 +102,8 @@ impl TraceBuilder {
     /// replay differed from the fact, the import would end with `Contradiction`. It doesn't unless
     /// the log contradicts itself, since a replay does what it observed.
     ///
+    /// Nothing else changes than what the fact is about, and whose number goes to its thread or its mutex.
+    ///
     /// Each step that is made has the time of `now`. Who appears does so before one of these steps,
     /// or behind them.
     ///
@@ -111,6 +115,8 @@ impl TraceBuilder {
         ensures shows { IfOk result (λ is_used. IsTrue is_used → Shows context.now self.new fact.now) }
         ensures shown { IfOk result (λ _. (facts : List Dated) → AreShown context.now facts self.old →
             AreShown context.now (record { fact = fact.now; time = now.now.time } ∷ facts) self.new) }
+        ensures others { IfOk result (λ _.
+            KeepsOthers context.now fact.now (view_of self.old) (view_of self.new)) }
         ensures fault { IfErr result (NamesOnly now.now.number) }
     {
         let is_used = self.make(context, fact, now)?;
@@ -148,6 +154,8 @@ impl TraceBuilder {
         ensures unused { IfOk result (λ is_used. is_used ≡ false → IsSetting fact.now.what) }
         ensures unset { IfOk result (λ is_used. is_used ≡ false → SetsNone (task_now context.now self.new)
             (mutex_now context.now self.new) fact.now.what fact.now.thread) }
+        ensures others { IfOk result (λ _.
+            KeepsOthers context.now fact.now (view_of self.old) (view_of self.new)) }
         ensures on { IfOk result (λ _. Extends context.now now.now.time self.old self.new) }
         ensures fault { IfErr result (NamesOnly now.now.number) }
     {
@@ -187,6 +195,10 @@ impl TraceBuilder {
         mutex: u32,
         now: &Now,
     ) -> Result<(), ImportFault>
+        requires its { mutex_of fact.now.what ≡ Some mutex }
+        requires acts { ¬ IsSetting fact.now.what }
+        ensures others { IfOk result (λ _.
+            KeepsOthers context.now fact.now (view_of self.old) (view_of self.new)) }
         ensures on { IfOk result (λ _. Extends context.now now.now.time self.old self.new) }
         ensures fault { IfErr result (NamesOnly now.now.number) }
     {
@@ -202,7 +214,8 @@ impl TraceBuilder {
                 let next = self.next_task(context, next);
                 self.pieces.release(task, mutex, next, now)
             }
-            _ => self.pieces.observe(&Observation::GaveUp(task), now),
+            What::GaveUp(_) => self.pieces.observe(&Observation::GaveUp(task), now),
+            What::Level(_) | What::Ceiling { .. } => unreachable!(),
         }
     }
 
@@ -244,6 +257,9 @@ impl TraceBuilder {
         thread: u32,
         now: &Now,
     ) -> Result<TaskNo, ImportFault>
+        ensures entered { IfOk result (λ task. task_now context.now self.new thread ≡ Some task) }
+        ensures only { IfOk result (λ _.
+            OnlyEntersThread context.now thread (view_of self.old) (view_of self.new)) }
         ensures on { IfOk result (λ _. Extends context.now now.now.time self.old self.new) }
         ensures fault { IfErr result (NamesOnly now.now.number) }
     {
@@ -253,11 +269,13 @@ impl TraceBuilder {
         let Some(number) = context.numbering.threads.of(thread) else {
             return Err(ImportFault::Contradiction(now.number));
         };
-        let task = TaskNo(number);
         if holder(&self.threads, number).is_some() {
-            self.pieces.leave(task, now)?;
+            self.pieces.leave(TaskNo(number), now)?;
         }
         self.admit_thread(context, thread, number)?;
+        let Some(task) = self.task_of(context, thread) else {
+            return Err(ImportFault::Contradiction(now.number));
+        };
         let level = level_of(&context.participants.threads, thread);
         self.pieces
             .begin_with_base(task, context.priorities.of_level(level), now)?;
@@ -271,6 +289,9 @@ impl TraceBuilder {
         mutex: u32,
         now: &Now,
     ) -> Result<MutexNo, ImportFault>
+        ensures entered { IfOk result (λ number. mutex_now context.now self.new mutex ≡ Some number) }
+        ensures only { IfOk result (λ _.
+            OnlyEntersMutex context.now mutex (view_of self.old) (view_of self.new)) }
         ensures on { IfOk result (λ _. Extends context.now now.now.time self.old self.new) }
         ensures fault { IfErr result (NamesOnly now.now.number) }
     {
@@ -282,13 +303,15 @@ impl TraceBuilder {
         };
         self.pieces.clear(MutexNo(number), now)?;
         self.admit_mutex(context, mutex, number)?;
+        let Some(number) = self.mutex_of(context, mutex) else {
+            return Err(ImportFault::Contradiction(now.number));
+        };
         if family_of(context.sources, mutex) == Family::Protect {
             let level = level_of(&context.participants.mutexes, mutex);
             let ceiling = context.priorities.of_level(level);
-            self.pieces
-                .begin_with_ceiling(MutexNo(number), ceiling, now)?;
+            self.pieces.begin_with_ceiling(number, ceiling, now)?;
         }
-        Ok(MutexNo(number))
+        Ok(number)
     }
 
     /// Keeps that a thread appears, which has its number from then on.
@@ -299,7 +322,10 @@ impl TraceBuilder {
         number: u16,
     ) -> Result<(), AllocError>
         requires { number_in context.now.numbering.now.threads thread ≡ Some number }
-        ensures { IfOk result (λ _. (time : ℕ) → Extends context.now time self.old self.new) }
+        ensures taken { IfOk result (λ _. view_of self.new ≡ record (view_of self.old) {
+          threads = lists.put self.old.threads.items number (Some thread);
+        }) }
+        ensures on { IfOk result (λ _. (time : ℕ) → Extends context.now time self.old self.new) }
     {
         let step = self.pieces.steps();
         let who = Who::Thread(thread);
@@ -311,7 +337,10 @@ impl TraceBuilder {
     /// Keeps that a mutex appears, which has its number from then on.
     fn admit_mutex(&mut self, context: &Context, mutex: u32, number: u16) -> Result<(), AllocError>
         requires { number_in context.now.numbering.now.mutexes mutex ≡ Some number }
-        ensures { IfOk result (λ _. (time : ℕ) → Extends context.now time self.old self.new) }
+        ensures taken { IfOk result (λ _. view_of self.new ≡ record (view_of self.old) {
+          mutexes = lists.put self.old.mutexes.items number (Some mutex);
+        }) }
+        ensures on { IfOk result (λ _. (time : ℕ) → Extends context.now time self.old self.new) }
     {
         let step = self.pieces.steps();
         let who = Who::Mutex(mutex);

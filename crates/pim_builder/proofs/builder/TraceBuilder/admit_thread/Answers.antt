@@ -3,8 +3,8 @@ use Rattle.pim_builder.specs.declared.builder.TraceBuilder.{TraceBuilder}
 use Rattle.pim_builder.proofs.Extending.{thread_appears}
 use Rattle.pim_builder.proofs.builder.TraceBuilder.admit_thread.Goals as goal
 
-pub returns : goal.returns
-returns c time =
+pub returns-clause-on : goal.returns-clause-on
+returns-clause-on c time =
     let new : TraceBuilder = record c.args.self.now { threads = c.put.new.list; appearances = c.push.new.list } in
     thread_appears c.args.context.now time c.args.self.now new c.steps-step.result c.args.thread c.args.number
     c.requires c.steps-step.ensures refl

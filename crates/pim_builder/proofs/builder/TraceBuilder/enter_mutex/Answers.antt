@@ -1,6 +1,12 @@
-use Rattle.std.proofs.Common.{sym, subst}
+use Rattle.std.proofs.Common.{◌≡◌, ◌∙◌, refl, sym, ap, subst, ℕ, Some, None}
+use Rattle.pim_replay.specs.Replays.{Program}
+use Rattle.pim_replay.proofs.Replaying.{same_refl}
+use Rattle.pim_builder.specs.Frames.{ChangesThose, View, mutex_in, program_at, view_of}
+use Rattle.pim_builder.specs.Showing.{held, number_in}
 use Rattle.pim_builder.specs.Shown.{Extends}
 use Rattle.pim_builder.specs.declared.builder.TraceBuilder.{TraceBuilder}
+use Rattle.pim_builder.proofs.Entering.{enters_mutex}
+use Rattle.pim_builder.proofs.Framing.{same_only}
 use Rattle.pim_builder.proofs.Extending.{extends_steps, extends_trans}
 use Rattle.pim_builder.proofs.builder.TraceBuilder.enter_mutex.Goals.{then-eq+in_ok-begin_with_ceiling, else-eq}
 use Rattle.pim_builder.proofs.builder.TraceBuilder.enter_mutex.Goals as goal
@@ -11,7 +17,7 @@ returns-clause-on c =
     let admitted : Extends c.args.context.now c.args.now.now.time c.args.self.now c.admit_mutex.new.self =
     extends_trans c.args.context.now c.args.now.now.time c.args.self.now cleared c.admit_mutex.new.self
     (extends_steps c.args.context.now c.args.now.now.time c.args.self.now c.clear.new.self c.in_ok-clear.ensures.on)
-    (c.in_ok-admit_mutex.ensures c.args.now.now.time) in
+    (c.in_ok-admit_mutex.ensures.on c.args.now.now.time) in
     elim c.if-eq.branch [
       | then-eq+in_ok-begin_with_ceiling w ↦
           let new : TraceBuilder = record c.admit_mutex.new.self { pieces = w.begin_with_ceiling.new.self } in
@@ -21,3 +27,31 @@ returns-clause-on c =
           w.in_ok-begin_with_ceiling.ensures.on))
       | else-eq w ↦ subst (Extends c.args.context.now c.args.now.now.time c.args.self.now) (sym w.self-is) admitted
     ]
+
+pub returns-clause-only : goal.returns-clause-only
+returns-clause-only c =
+    let number : ℕ = c.in-Some-of.number in
+    let old : View = view_of c.args.self.now in
+    let Set : Program → Program → Type 0 =
+    ChangesThose (record { base = None; wait = None; owner = None; ceiling = Some c.in-Some-mutex_of.number }) in
+    let way : Set (program_at c.admit_mutex.new.self.pieces) (program_at c.if-eq.self.pieces)
+    × (c.if-eq.self.threads.items ≡ c.admit_mutex.new.self.threads.items)
+    × (c.if-eq.self.mutexes.items ≡ c.admit_mutex.new.self.mutexes.items) =
+    elim c.if-eq.branch [
+      | then-eq+in_ok-begin_with_ceiling w ↦ rw w.self-is (w.in_ok-begin_with_ceiling.ensures.only, refl, refl)
+      | else-eq w ↦ rw w.self-is (
+        same_only (λ k. None ≡ Some k) (λ k. None ≡ Some k) (λ n. None ≡ Some n)
+            (λ n. Some c.in-Some-mutex_of.number ≡ Some n) (program_at c.admit_mutex.new.self.pieces)
+            (program_at c.admit_mutex.new.self.pieces) (same_refl (program_at c.admit_mutex.new.self.pieces)),
+        refl,
+        refl,
+      )
+    ] in
+    let taken = c.in_ok-admit_mutex.ensures.taken in
+    let numbered : mutex_in c.args.context.now (view_of c.if-eq.self) c.args.mutex ≡ Some c.in-Some-mutex_of.number =
+    ap (λ ms. held ms c.args.mutex (number_in c.args.context.now.numbering.now.mutexes c.args.mutex)) way.2
+    ∙ sym c.in-Some-mutex_of.ensures in
+    enters_mutex c.args.context.now c.args.mutex number c.in-Some-mutex_of.number old (view_of c.if-eq.self)
+    (program_at c.clear.new.self) (sym c.in_default.ensures) (sym c.in-Some-of.ensures) numbered
+    (way.2 ∙ ap (λ (v : View). v.mutexes) taken) (way.1 ∙ ap (λ (v : View). v.threads) taken) c.in_ok-clear.ensures.only
+    (subst (λ p. Set p (program_at c.if-eq.self.pieces)) (ap (λ (v : View). v.program) taken) way.0)

@@ -1,4 +1,9 @@
+use Rattle.std.proofs.Common.{None, Some}
+use Rattle.pim_replay.specs.declared.observation.Observation.TheVariants.{Base}
+use Rattle.pim_builder.specs.Frames.{program_at, view_of}
+use Rattle.pim_builder.proofs.Entering.{ceiling_only, keeps_from, level_only, none_changed}
 use Rattle.pim_builder.proofs.Extending.{cut_and_on, cut_and_extended, extends_steps}
+use Rattle.pim_builder.proofs.Framing.{by_observation}
 use Rattle.pim_builder.proofs.builder.TraceBuilder.make.Goals as goal
 
 pub returns-in_ok-observe-in-Level-clause-on : goal.returns-in_ok-observe-in-Level-clause-on
@@ -23,7 +28,35 @@ pub returns-in_ok-act-in-Granted : goal.returns-in_ok-act-in-Granted
 returns-in_ok-act-in-Granted c = record {
   unused = λ is. absurd (cc is);
   unset = λ is. absurd (cc is);
+  others = keeps_from c.args.context.now c.args.fact.now (view_of c.args.self.now) (view_of c.act.new.self)
+      (program_at c.cut.new.self) c.in_ok-cut.ensures.same c.in_ok-act-in-Granted.ensures.others;
   on = cut_and_extended c.args.context.now c.args.now.now.time c.args.self.now c.cut.new.self c.act.new.self
       c.in_ok-cut.ensures.on c.in_ok-act-in-Granted.ensures.on;
   fault = tt;
 }
+
+pub returns-in_ok-observe-in-Level-clause-others : goal.returns-in_ok-observe-in-Level-clause-others
+returns-in_ok-observe-in-Level-clause-others c =
+    level_only c.args.context.now c.args.fact.now (view_of c.args.self.now) (program_at c.cut.new.self)
+    (program_at c.observe.new.self) c.in-Level.level (Some c.in-Some.task) c.in-Level.is c.in-Some.ensures
+    c.in_ok-cut.ensures.same
+    (by_observation (program_at c.cut.new.self) (program_at c.observe.new.self) (Base c.in-Some.task c.of_level-prio.result)
+    c.in_ok-observe-in-Level.ensures.observed)
+
+pub returns-in_ok-set_ceiling-in-Ceiling-clause-others : goal.returns-in_ok-set_ceiling-in-Ceiling-clause-others
+returns-in_ok-set_ceiling-in-Ceiling-clause-others c =
+    ceiling_only c.args.context.now c.args.fact.now (view_of c.args.self.now) (program_at c.cut.new.self)
+    (program_at c.set_ceiling.new.self) c.in-Ceiling.mutex c.in-Ceiling.level (Some c.in-Some-mutex_of.mutex)
+    c.in-Ceiling.is c.in-Some-mutex_of.ensures c.in_ok-cut.ensures.same c.in_ok-set_ceiling-in-Ceiling.ensures.only
+
+pub returns-in_default-clause-others : goal.returns-in_default-clause-others
+returns-in_default-clause-others c =
+    level_only c.args.context.now c.args.fact.now (view_of c.args.self.now) (program_at c.cut.new.self)
+    (program_at c.cut.new.self) c.in-Level.level None c.in-Level.is c.in_default.ensures c.in_ok-cut.ensures.same
+    (none_changed (program_at c.cut.new.self))
+
+pub returns-in_default-mutex_of-clause-others : goal.returns-in_default-mutex_of-clause-others
+returns-in_default-mutex_of-clause-others c =
+    ceiling_only c.args.context.now c.args.fact.now (view_of c.args.self.now) (program_at c.cut.new.self)
+    (program_at c.cut.new.self) c.in-Ceiling.mutex c.in-Ceiling.level None c.in-Ceiling.is c.in_default-mutex_of.ensures
+    c.in_ok-cut.ensures.same (none_changed (program_at c.cut.new.self))

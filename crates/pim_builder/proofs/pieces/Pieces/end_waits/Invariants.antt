@@ -1,6 +1,10 @@
+use Rattle.pim_builder.specs.Frames.{OnlyClears, program_at}
 use Rattle.pim_builder.specs.Pieces.{GoesOn}
 use Rattle.pim_builder.proofs.pieces.Pieces.end_waits.Given as goal
 
--- the trace goes on from where the function began
+-- the trace goes on from where the function began, and changes in no more than the mutex
 abbrev pub invariant-loop-number : goal.invariant-loop-number
-invariant-loop-number l = GoesOn l.now.time l.fn.self l.self
+invariant-loop-number l = record {
+  on : GoesOn l.now.time l.fn.self l.self;
+  only : OnlyClears l.mutex (program_at l.fn.self) (program_at l.self);
+}

@@ -1,6 +1,20 @@
 use Rattle.std.proofs.lemmas.Result.{IfOk-weaker}
+use Rattle.pim_builder.specs.Frames.{program_at}
+use Rattle.pim_builder.proofs.Framing.{around_base, by_observation}
 use Rattle.pim_builder.proofs.GoingOn.{goes_on_trans}
 use Rattle.pim_builder.proofs.pieces.Pieces.observe_grant.Goals as goal
+
+pub returns-in_default-clause-only : goal.returns-in_default-clause-only
+returns-in_default-clause-only c = IfOk-weaker c.observe.result _ _ (λ x observed.
+    by_observation (program_at c.args.self.now) (program_at c.observe.new.self) c.args.observation.now observed)
+    c.observe.ensures.observed
+
+pub returns-clause-only : goal.returns-clause-only
+returns-clause-only c = IfOk-weaker c.observe-4.result _ _ (λ x last.
+    around_base (program_at c.args.self.now) (program_at c.observe-2.new.self) (program_at c.observe-3.new.self)
+    (program_at c.observe-4.new.self) c.args.observation.now c.in-Some.above.0 c.in-Some.above.1 c.in-Some.above.2
+    c.in-Some.ensures c.in_ok-observe.ensures.observed c.in_ok-observe-2.ensures.observed last)
+    c.observe-4.ensures.observed
 
 pub returns-clause-on : goal.returns-clause-on
 returns-clause-on c = IfOk-weaker c.observe-4.result _ _ (λ x on.

@@ -1,6 +1,14 @@
+use Rattle.std.proofs.Common.{map, take}
+use Rattle.pim_replay.specs.Replays.{IsSame}
+use Rattle.pim_replay.specs.declared.observation.Observation.TheVariants.{Waits}
+use Rattle.pim_builder.specs.Frames.{all_observed, program_at}
 use Rattle.pim_builder.specs.Pieces.{GoesOn}
 use Rattle.pim_builder.proofs.pieces.Pieces.put_back.Given as goal
 
--- the trace goes on from where the function began
+-- the trace goes on from where the function began, and each of the tasks so far waits again
 abbrev pub invariant-loop-wait : goal.invariant-loop-wait
-invariant-loop-wait l = GoesOn l.now.time l.fn.self l.self
+invariant-loop-wait l = record {
+  on : GoesOn l.now.time l.fn.self l.self;
+  again : IsSame (all_observed (program_at l.fn.self) (map (λ w. Waits w.task w.mutex) (take l.wait-index l.waits)))
+      (program_at l.self);
+}
