@@ -1,5 +1,5 @@
 //! The longest critical sections of a program.
-ghost use Rattle.std.specs.Prelude.{◌≡◌, ℕ, ◌==◌, ◌&&◌, nat_lt, List, [], ◌∷◌, length, slice_index_or, if◌then◌else◌, Some, None, IfOk, OnOk};
+ghost use Rattle.std.specs.Prelude.{◌≡◌, ℕ, ◌==◌, ◌&&◌, nat_lt, List, [], ◌∷◌, length, if◌then◌else◌, Some, None, IfOk, OnOk};
 ghost use Rattle.pim_blocking.specs.Observed.{AreLongest, KeepsAll, KnowsSections, Moment, all_sections, and_ended, open_at, user_of};
 ghost use Rattle.pim_blocking.specs.Sections.{AreInOrder};
 ghost use Rattle.pim_blocking.specs.Steps.{KeepsLongest};
@@ -172,7 +172,7 @@ impl Sections {
     }
 }
 
-/// Returns that the thread of a fact uses this mutex, at its level.
+/// Returns that the thread of a fact uses this mutex, at the level that the thread has then.
 fn user_in(course: &Course, fact: &Fact, mutex: u32) -> User
     ensures { (time : ℕ) → result ≡ user_of (record { fact = fact.now; time = time; course = course.now }) mutex }
 {

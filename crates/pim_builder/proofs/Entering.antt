@@ -16,7 +16,7 @@ use Rattle.pim_replay.proofs.Replaying.{same_refl}
 use Rattle.pim_builder.specs.Showing.{IsSetting, held, holder_in, number_in}
 use Rattle.pim_builder.specs.Frames.{BeginsAsMutex, BeginsAsTask, Changed, ChangesOnly, ChangesThose, KeepsOthers}
 use Rattle.pim_builder.specs.Frames.{MutexBegins, Nobody, OnlyClears, OnlyEntersMutex, OnlyEntersThread, OnlyLeaves, TaskBegins, View}
-use Rattle.pim_builder.specs.Frames.{ChangesBy, changed_by, changed_in, mutex_in, owner_in, task_in}
+use Rattle.pim_builder.specs.Frames.{ChangesBy, changed_by, changed_by_fact, mutex_in, owner_in, task_in}
 use Rattle.pim_builder.specs.declared.builder.Context.{Context}
 use Rattle.pim_builder.proofs.Framing.{only_on, only_weaker, same_only}
 
@@ -132,7 +132,7 @@ pub acts_only :
     → ¬ IsSetting fact.what
     → OnlyEntersThread context fact.thread a b
     → OnlyEntersMutex context m b c
-    → AreOf context c (changed_in fact.what fact.thread) numbered
+    → AreOf context c (changed_by_fact fact.what fact.thread) numbered
     → ChangesThose numbered c.program q
     → KeepsOthers context fact a (record c { program = q })
 acts_only context fact m a b c q numbered its acts first second are last = record {
@@ -160,7 +160,7 @@ acts_only context fact m a b c q numbered its acts first second are last = recor
     d = record c { program = q }
 
     logged : Changed
-    logged = changed_in fact.what fact.thread
+    logged = changed_by_fact fact.what fact.thread
 
     Bases : ℕ → Type 0
     Bases k = (option_and_then (task_in context d) logged.base ≡ Some k) ⊎ TaskBegins context fact a d k
@@ -214,12 +214,12 @@ module _ (context : Context) (fact : Fact) (m k n : ℕ) (a b c : View) (q : Pro
   acts_as :
       (w : What) (o : Observation)
       → fact.what ≡ w
-      → AreOf context c (changed_in w fact.thread) (changed_by o)
+      → AreOf context c (changed_by_fact w fact.thread) (changed_by o)
       → ChangesBy o c.program q
       → KeepsOthers context fact a (record c { program = q })
   acts_as w o is are last =
       acts_only context fact m a b c q (changed_by o) its acts first second
-      (subst (λ w. AreOf context c (changed_in w fact.thread) (changed_by o)) (sym is) are) last
+      (subst (λ w. AreOf context c (changed_by_fact w fact.thread) (changed_by o)) (sym is) are) last
 
   pub grants_only :
       (l : ℕ)
@@ -257,7 +257,7 @@ module _ (context : Context) (fact : Fact) (m k n : ℕ) (a b c : View) (q : Pro
 -- it changes what it does, and nobody takes a number
 pub sets_only :
     (context : Context) (fact : Fact) (a : View) (p q : Program) (numbered : Changed)
-    → AreOf context a (changed_in fact.what fact.thread) numbered
+    → AreOf context a (changed_by_fact fact.what fact.thread) numbered
     → IsSame a.program p
     → ChangesThose numbered p q
     → KeepsOthers context fact a (record a { program = q })
@@ -320,7 +320,7 @@ pub level_only :
 level_only context fact a p q level task is looked =
     let c : Changed = record { base = task; wait = None; owner = None; ceiling = None } in
     sets_only context fact a p q c
-    (subst (λ w. AreOf context a (changed_in w fact.thread) c) (sym is)
+    (subst (λ w. AreOf context a (changed_by_fact w fact.thread) c) (sym is)
     (record { base = sym looked; wait = refl; owner = refl; ceiling = refl }))
 
 pub ceiling_only :
@@ -333,7 +333,7 @@ pub ceiling_only :
 ceiling_only context fact a p q m level number is looked =
     let c : Changed = record { base = None; wait = None; owner = None; ceiling = number } in
     sets_only context fact a p q c
-    (subst (λ w. AreOf context a (changed_in w fact.thread) c) (sym is)
+    (subst (λ w. AreOf context a (changed_by_fact w fact.thread) c) (sym is)
     (record { base = refl; wait = refl; owner = refl; ceiling = sym looked }))
 
 -- nothing changes

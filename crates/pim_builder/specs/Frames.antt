@@ -72,13 +72,13 @@ abbrev pub program_at : Point → Program
 program_at point = program_of point.piece.replay
 
 -- the threads and mutexes of the log that a fact changes, where its thread is t
-abbrev pub changed_in : What → ℕ → Changed
-changed_in (what.Granted m) t = record { base = None; wait = Some t; owner = Some m; ceiling = None }
-changed_in (what.Waits m) t = record { base = None; wait = Some t; owner = None; ceiling = None }
-changed_in (what.GaveUp m) t = record { base = None; wait = Some t; owner = None; ceiling = None }
-changed_in (what.Released m next) t = record { base = None; wait = next; owner = Some m; ceiling = None }
-changed_in (what.Level level) t = record { base = Some t; wait = None; owner = None; ceiling = None }
-changed_in (what.Ceiling m level) t = record { base = None; wait = None; owner = None; ceiling = Some m }
+abbrev pub changed_by_fact : What → ℕ → Changed
+changed_by_fact (what.Granted m) t = record { base = None; wait = Some t; owner = Some m; ceiling = None }
+changed_by_fact (what.Waits m) t = record { base = None; wait = Some t; owner = None; ceiling = None }
+changed_by_fact (what.GaveUp m) t = record { base = None; wait = Some t; owner = None; ceiling = None }
+changed_by_fact (what.Released m next) t = record { base = None; wait = next; owner = Some m; ceiling = None }
+changed_by_fact (what.Level level) t = record { base = Some t; wait = None; owner = None; ceiling = None }
+changed_by_fact (what.Ceiling m level) t = record { base = None; wait = None; owner = None; ceiling = Some m }
 
 -- what a trace has at a point: who has each task and each mutex, and the program
 pub record View : Type 0 where
@@ -128,11 +128,11 @@ pub record OnlyEntersMutex (context : Context) (m : ℕ) (early late : View) : T
       ChangesOnly Nobody (λ k. (n : ℕ) × (early.program.awaits k ≡ Some n) × BeginsAsMutex context early late m n)
       (BeginsAsMutex context early late m) (BeginsAsMutex context early late m) early.program late.program
 
--- the fact's thread begins to be this task, which no thread does whose level is set
+-- the fact's thread begins to be this task, by a fact that sets no level and no ceiling
 abbrev pub TaskBegins : Context → Fact → View → View → ℕ → Type 0
 TaskBegins context fact early late k = ¬ IsSetting fact.what × BeginsAsTask context early late fact.thread k
 
--- the fact's mutex begins to have this number
+-- the fact's mutex begins to have this number, by such a fact
 abbrev pub MutexBegins : Context → Fact → View → View → ℕ → Type 0
 MutexBegins context fact early late n =
     ¬ IsSetting fact.what × (m : ℕ) × (mutex_of fact.what ≡ Some m) × BeginsAsMutex context early late m n
@@ -144,7 +144,7 @@ pub record KeepsOthers (context : Context) (fact : Fact) (early late : View) : T
   pub threads : (k : ℕ) → ¬ TaskBegins context fact early late k → nth late.threads k ≡ nth early.threads k
   pub mutexes : (n : ℕ) → ¬ MutexBegins context fact early late n → nth late.mutexes n ≡ nth early.mutexes n
   pub program :
-      let c = changed_in fact.what fact.thread in
+      let c = changed_by_fact fact.what fact.thread in
       ChangesOnly
       (λ k. (option_and_then (task_in context late) c.base ≡ Some k) ⊎ TaskBegins context fact early late k)
       (λ k. (option_and_then (task_in context late) c.wait ≡ Some k) ⊎ (TaskBegins context fact early late k

@@ -102,7 +102,8 @@ impl TraceBuilder {
     /// replay differed from the fact, the import would end with `Contradiction`. It doesn't unless
     /// the log contradicts itself, since a replay does what it observed.
     ///
-    /// Nothing else changes than what the fact is about, and whose number goes to its thread or its mutex.
+    /// Behind the steps nothing is other than before but those whom the fact is about, those whose numbers
+    /// go to its thread or its mutex, what that task owned, and who waited for that mutex.
     ///
     /// Each step that is made has the time of `now`. Who appears does so before one of these steps,
     /// or behind them.
@@ -273,6 +274,7 @@ impl TraceBuilder {
             self.pieces.leave(TaskNo(number), now)?;
         }
         self.admit_thread(context, thread, number)?;
+        // It has its number now, unless there is no task with that, which isn't proved of the numbering.
         let Some(task) = self.task_of(context, thread) else {
             return Err(ImportFault::Contradiction(now.number));
         };
@@ -303,6 +305,7 @@ impl TraceBuilder {
         };
         self.pieces.clear(MutexNo(number), now)?;
         self.admit_mutex(context, mutex, number)?;
+        // It has its number now, unless the trace has no mutex with that.
         let Some(number) = self.mutex_of(context, mutex) else {
             return Err(ImportFault::Contradiction(now.number));
         };

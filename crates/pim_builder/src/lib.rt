@@ -19,8 +19,8 @@
 //! It is proved that the trace shows the facts that it was built from, one behind the other, each of
 //! those who have its numbers by then, that each step has the time of the fact for which it was made,
 //! and that who appears for a fact does so before one of its steps, or behind them (specs/Shown.antt).
-//! Nothing else changes with a fact than what it is about, and those whose numbers it gives to others
-//! (specs/Frames.antt).
+//! From one fact to the next nothing changes but those whom the fact is about, those whose numbers it
+//! gives to others, and what these owned or who waited for these (specs/Frames.antt).
 //!
 //! It is proved that each further piece begins with the owners, waits, bases, protocols and order
 //! of waiters with which the one before it ends (specs/Pieces.antt).

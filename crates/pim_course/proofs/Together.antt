@@ -8,7 +8,7 @@ use Rattle.pim_facts.specs.declared.fact.What.{What}
 use Rattle.pim_facts.specs.declared.fact.What.TheVariants.{Granted, Waits, GaveUp, Released, Level, Ceiling}
 use Rattle.std.specs.Prelude.{MatchOption}
 use Rattle.pim_facts.specs.Shown.{mutex_of}
-use Rattle.pim_course.specs.Sections.{AreNumbered, AreTogether, Ends, IsGivenUp, IsWithin, Sections, SectionsLaw}
+use Rattle.pim_course.specs.Sections.{AreNumbered, AreTogether, Ends, IsGiveUp, IsWithin, Sections, SectionsLaw}
 use Rattle.pim_course.specs.Sections.{after_numbered, lasts_at, next_number, no_sections, number_at, number_of}
 use Rattle.pim_course.specs.Sections.{sections_after}
 use Rattle.pim_course.specs.World.{but_for}
@@ -195,7 +195,7 @@ here-lasts R s m n only lt e =
     ]
 
 here : (R : ℕ → Type 0) (s : Sections) (what : What) (t n : ℕ) → Only R s n →
-    (sections_after s what t).count < 2 ^ 32 - 1 → (IsGivenUp what → ⊥) → Some n ≡ number_of s what t →
+    (sections_after s what t).count < 2 ^ 32 - 1 → (IsGiveUp what → ⊥) → Some n ≡ number_of s what t →
     MatchOption (mutex_of what) ⊥ R
 here R s (Granted m) t n only lt live e = here-lasts R s m n only lt e
 here R s (Waits m) t n only lt live e = here-lasts R s m n only lt e
@@ -255,7 +255,7 @@ unended (fact ∷ facts) last s to m n only led lt within e = (
 
 -- a fact within a critical section: the one with its number is at its mutex from then on
 first-only : (s : Sections) (what : What) (t n : ℕ) → Apart s → (sections_after s what t).count < 2 ^ 32 - 1 →
-    (IsGivenUp what → ⊥) → Some n ≡ number_of s what t →
+    (IsGiveUp what → ⊥) → Some n ≡ number_of s what t →
     MatchOption (mutex_of what) ⊥ (λ m. Only (λ j. j ≡ m) (sections_after s what t) n)
 first-only s (Granted m) t n apart lt live e =
     let x : Only (λ j. j ≡ m) (lasts_at s m) n =
@@ -298,7 +298,7 @@ stays s (Level level) t m n is on = is
 stays s (Ceiling k level) t m n is on = is
 
 -- a fact that has this number and doesn't end its critical section: that one lasts then
-first-lasts : (s : Sections) (what : What) (t m n : ℕ) → Some n ≡ number_of s what t → (IsGivenUp what → ⊥) →
+first-lasts : (s : Sections) (what : What) (t m n : ℕ) → Some n ≡ number_of s what t → (IsGiveUp what → ⊥) →
     mutex_of what ≡ Some m → (what ≡ Released m None → ⊥) → (sections_after s what t).lasting m ≡ Some n
 first-lasts s (Granted k) t m n e live of on =
     at-it k (Some (number_at s k)) s.lasting m (sym (same-some k m of)) ∙ sym e
@@ -310,7 +310,7 @@ first-lasts s (Released k next) t m n e live of on =
 first-lasts s (Level level) t m n e live of on = never-some n (sym e)
 first-lasts s (Ceiling k level) t m n e live of on = ap s.lasting (sym (same-some k m of)) ∙ sym e
 
-last-has : (s : Sections) (what : What) (t m n p : ℕ) → s.lasting m ≡ Some n → (IsGivenUp what → ⊥) →
+last-has : (s : Sections) (what : What) (t m n p : ℕ) → s.lasting m ≡ Some n → (IsGiveUp what → ⊥) →
     mutex_of what ≡ Some m → Some p ≡ number_of s what t → p ≡ n
 last-has s (Granted k) t m n p is live of e =
     same-some _ _ e ∙ number-lasting s k n (ap s.lasting (same-some k m of) ∙ is)

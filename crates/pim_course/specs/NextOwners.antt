@@ -53,7 +53,7 @@ is_condition _ = false
 abbrev pub is_that : Option ℕ → ℕ → Bool
 is_that number n = option_map_or (λ other. other == n) number false
 
--- a list with this at a place, if there is one
+-- a list with this at a place; as it is if no place is given
 abbrev pub set_at : {A : Type 0} → Option ℕ → A → List A → List A
 set_at place is list = option_map_or (λ place. slice_set list place is) place list
 

@@ -119,15 +119,15 @@ AreNumbered (fact ∷ facts) from to = HasNumbersOf from fact × AreNumbered fac
 abbrev pub Ends : ℕ → Fact → Type 0
 Ends m fact = fact.what ≡ Released m None
 
--- a thread stopped waiting
-abbrev pub IsGivenUp : What → Type 0
-IsGivenUp (GaveUp m) = Unit {0}
-IsGivenUp _ = ⊥
+-- a thread gave up
+abbrev pub IsGiveUp : What → Type 0
+IsGiveUp (GaveUp m) = Unit {0}
+IsGiveUp _ = ⊥
 
 -- a fact is in a critical section that lasts at its mutex: it has a number, and isn't the end of a wait
 pub record IsWithin (fact : Fact) : Type 0 where
   pub some : fact.section ≢ None
-  pub no_end : IsGivenUp fact.what → ⊥
+  pub no_end : IsGiveUp fact.what → ⊥
 
 -- two facts of a log, the one before the other, are in one critical section: that of a mutex, which no fact ended meanwhile
 pub record AreTogether (first : Fact) (between : List Fact) (last : Fact) : Type 0 where

@@ -213,7 +213,7 @@ impl Course {
         }
     }
 
-    /// Goes on by a record that is about nobody whom the log knows: the priority of such a thread is as it was.
+    /// Goes on by a record of which it isn't known whom it is about. No thread's level changes by it, but of one that begins.
     fn stay(&mut self, record: &Record) -> LeftOut
         ensures size { HasSameSize self.old self.new }
         ensures depths { KeepsDepths self.old self.new }

@@ -23,7 +23,7 @@ use std::alloc::{AllocError, Global};
 #[derive(Drop)]
 pub struct NextOwners {
     /// By the number of a RELEASE or a REQUEST the number of what is [`Kept`] of it. Before that is found the thread that the
-    /// REQUEST names, or 0.
+    /// REQUEST names; 0 stands for none, so that each takes four bytes.
     kept: Vec<u32>,
 }
 

@@ -1,6 +1,5 @@
 //! What a record of a log shows.
-ghost use Rattle.std.specs.Prelude.{◌≡◌, ◌<◌};
-ghost use Rattle.pim_facts.specs.Shown.{mutex_of};
+ghost use Rattle.std.specs.Prelude.{◌<◌};
 
 /// What happened. Threads and mutexes have the numbers of [`Ids`](crate::Ids).
 #[derive(Clone, Copy, PartialEq, Eq)]
@@ -25,19 +24,6 @@ pub enum What {
         /// The level of its ceiling from now on.
         level: u8,
     },
-}
-
-impl What {
-    /// Returns the mutex that it is about: all but a level is about one.
-    pub fn mutex(self) -> Option<u32>
-        ensures { result ≡ mutex_of self }
-    {
-        match self {
-            What::Granted(mutex) | What::Waits(mutex) | What::GaveUp(mutex) => Some(mutex),
-            What::Released { mutex, .. } | What::Ceiling { mutex, .. } => Some(mutex),
-            What::Level(_) => None,
-        }
-    }
 }
 
 /// What a record shows of a thread.

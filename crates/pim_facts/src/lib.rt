@@ -8,7 +8,7 @@
 //! ```text
 //! let log = Log::read(alloc, &bytes)?;
 //! let (ids, named) = Ids::of(alloc, &log)?;
-//! ids.of_record(12); // Some: the number of the mutex that record 12 is about
+//! ids.of_record(12); // Some: the number of the mutex or the thread that record 12 is about
 //! ```
 #![tactic(auto)]
 

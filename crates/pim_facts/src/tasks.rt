@@ -10,8 +10,8 @@ use std::collections::HashMap;
 /// The threads that the requests of a log name.
 #[derive(Drop)]
 pub struct Named {
-    /// By the number of a REQUEST that names a task the last thread that began with it before. 0 if none did, and of each
-    /// other record.
+    /// By the number of a REQUEST that names a task the last thread that began with it before. 0 stands for none, and is kept
+    /// of each other record, so that each takes four bytes.
     pub threads: Vec<u32>,
 }
 

@@ -11,7 +11,7 @@ abbrev pub blocker_by : Course → ℕ → CourseThread → Option ℕ
 blocker_by course t thread =
     if is_some thread.awaits_own then Some t else option_and_then (λ m. (mutex_in course m).owner) thread.awaits
 
--- who blocks the thread with this number; 0 is none, nor is the highest u32 or above
+-- who blocks the thread with this number: there is no thread 0, and none with the highest u32 or above
 abbrev pub blocker_of : Course → ℕ → Option ℕ
 blocker_of course t =
     if (t == 0) || nat_le 4294967295 t then None

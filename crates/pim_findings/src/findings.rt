@@ -1,5 +1,5 @@
 //! What is found in a recording.
-ghost use Rattle.std.specs.Prelude.{◌≡◌, ◌≢◌, ℕ, ◌<◌, ◌==◌, ◌&&◌, ◌||◌, not, nat_lt, ◌↔◌, ◌⊎◌, Some, None, List, [], ◌∷◌, length, is_some, Any, IfOk, IsTrue, if◌then◌else◌, vec_len};
+ghost use Rattle.std.specs.Prelude.{◌≡◌, ◌≢◌, ℕ, ◌<◌, ◌==◌, ◌&&◌, ◌||◌, not, ◌↔◌, ◌⊎◌, Some, None, List, [], ◌∷◌, length, is_some, Any, IfOk, IsTrue, if◌then◌else◌, vec_len};
 ghost use Rattle.pim_findings.specs.Cycles.{AreCycles};
 ghost use Rattle.pim_findings.specs.Deadlocks.{blocker_of, threads_of};
 ghost use Rattle.pim_findings.specs.Waits.{Moment, all_waits, and_fact, and_until};

@@ -16,8 +16,8 @@ pub struct TaskNames<'a> {
     pub told: Option<Told<'a>>,
 }
 
-/// Returns the log and its thread that has this number in the kernel, the last one if several had it. The idle task is as a
-/// thread that no record is of: each log has one, without a name.
+/// Returns the log and its thread that has this number in the kernel, the last one if several had it. The idle task is written
+/// as a thread that no record is of, which has no name: each log has such a one.
 pub fn thread_of<'a>(names: &TaskNames<'a>, task: u32) -> Option<(Told<'a>, u32)> {
     let told = names.told?;
     let threads = told.imported.sources.ids.threads.as_slice();

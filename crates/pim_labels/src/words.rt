@@ -125,10 +125,8 @@ pub fn put_code(out: &mut Out, told: &Told, words: &str, thread: u32, place: Opt
     let Some(address) = told.log.place(number) else {
         return;
     };
-    let process = match told.imported.sources.ids.threads.get(thread as usize) {
-        Some(is) => is.process,
-        None => None,
-    };
+    let is = told.imported.sources.ids.threads.get(thread as usize);
+    let process = is.and_then(|is| is.process);
     out.put(words);
     told.labels.put_code(out, number, process, address);
 }

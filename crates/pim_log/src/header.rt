@@ -229,7 +229,7 @@ impl Header {
     }
 }
 
-/// Returns the lowest number for which a log had no room, for which its header has 0 where nothing was lost.
+/// Returns the lowest number for which a log had no room, if there is one. Its header has 0 if there is none.
 fn first_lost_at(bytes: &[u8]) -> Option<u64>
     requires { HEADER_BYTES ≤ length bytes.now }
     ensures { result ≡ first_lost_in bytes.now }

@@ -14,7 +14,7 @@ use std::alloc::{AllocError, Global};
 /// A wait of a task for a mutex. In order by the ticket, that is as they began.
 #[derive(Clone, Copy, PartialEq, Eq, PartialOrd, Ord)]
 pub struct TicketedWait {
-    /// The manager's number of the wait: of two waits the one that began later has the higher one.
+    /// The number of the wait: of two in queues, or of two outside, the one that began later has the higher one.
     pub ticket: u64,
     /// The number of the task that waits.
     pub task: u16,
