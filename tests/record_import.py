@@ -26,7 +26,7 @@ PICTURE = ROOT / "crates/pim_picture/out/pim_picture"
 PLACE = r"\S+(?: \([^()]*\))?"
 DURATION, MOMENT = r"\d+\.\d{3} (?:s|ms|us)", r"\d+\.\d{6} s"
 
-# The only line of a wait that the program missed may have: high waits for low alone, and in at least one of its rounds.
+# The line of each wait of high in the program missed: high waits for low alone, and in at least one of its rounds.
 MISSED = rf"high\[\d+\], at 80, waited {DURATION} from {MOMENT} on for mutex 1 \(none\) of low\[\d+\], at 10: " \
          "not bounded: mutex 1 is a NONE one"
 # Of each program what its findings have: the status, lines in order (expressions over the whole line, of which further
@@ -255,7 +255,8 @@ def programs(folder):
         if command == "chain":
             options(found)
         if command == "missed":
-            waits = [line for line in found.lines if ", waited " in line and not line.startswith("  ")]
+            # Low may wait for high, too, if it begins late.
+            waits = [line for line in found.lines if line.startswith("high[") and ", waited " in line]
             others = [line for line in waits if not re.fullmatch(MISSED, line)]
             check("each wait of high in missed is for low", difference((others,), ([],)))
     for command in RACING:
