@@ -11,7 +11,7 @@ use crate::builder::Now;
 use crate::fault::ImportFault;
 use crate::pieces::Pieces;
 use pim_base::{MutexNo, Prio, Protocol, TaskNo};
-use pim_course::lists::push;
+use pim_facts::lists::push;
 use pim_replay::{Observation, TicketedWait};
 use std::alloc::AllocError;
 

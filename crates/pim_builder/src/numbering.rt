@@ -6,9 +6,9 @@ ghost use Rattle.pim_builder.specs.Showing.{number_in};
 use crate::fault::ImportFault;
 use crate::participants::{Participant, Participants};
 use pim_base::{MAX_MUTEXES, MAX_TASKS};
-use pim_course::lists::push;
 use pim_course::{Sources, family_of};
 use pim_facts::Family;
+use pim_facts::lists::push;
 use pim_replay::{SharingFault, Span, share};
 use std::alloc::{AllocError, Global};
 

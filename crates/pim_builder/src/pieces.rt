@@ -7,7 +7,7 @@ ghost use Rattle.pim_builder.specs.Pieces.{AreJoined, EndWith, GoesOn, HasTimes,
 use crate::builder::Now;
 use crate::fault::ImportFault;
 use pim_base::MAX_STEPS;
-use pim_course::lists::push;
+use pim_facts::lists::push;
 use pim_replay::{Observation, Piece, Replay, ReplayFault, Times, restored};
 use std::alloc::{AllocError, Global};
 use std::marker::Model;

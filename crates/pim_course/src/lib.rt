@@ -22,7 +22,6 @@
 
 mod course;
 mod laws;
-pub mod lists;
 mod next_owners;
 mod owners;
 mod requests;

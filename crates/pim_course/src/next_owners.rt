@@ -14,7 +14,7 @@ ghost use Rattle.pim_course.specs.NextOwners.{CoversThose, FindsFrom, HasRoom, I
 ghost use Rattle.pim_course.specs.NextOwners.{is_call, is_granted, is_of_release, is_release_failed, is_that};
 ghost use Rattle.pim_course.specs.NextOwners.{next_owner, release_kept, set_at};
 
-use crate::lists::{get, set};
+use pim_facts::lists::{get, set};
 use pim_facts::{Ids, Named};
 use pim_log::{Call, Event, Log, Record};
 use std::alloc::{AllocError, Global};
@@ -30,8 +30,7 @@ pub struct NextOwners {
 /// What is kept of a RELEASE or a REQUEST, in four bytes.
 #[derive(Clone, Copy, PartialEq, Eq)]
 enum Kept {
-    /// Of a RELEASE what [`next_owner`](NextOwners::next_owner) returns, of a REQUEST what
-    /// [`asked_owner`](NextOwners::asked_owner) does.
+    /// What [`owner`](NextOwners::owner) returns.
     Owner(Option<u32>),
     /// Of a REQUEST the thread that is granted the mutex next, by a call that began after the REQUEST.
     Later(u32),
@@ -165,21 +164,10 @@ impl NextOwners {
         }
     }
 
-    /// Returns the other thread that is granted the mutex next after the RELEASE with this number, if it calls nothing before.
-    /// So if it waits for the mutex then, it waits until the grant.
-    pub fn next_owner(&self, number: u64) -> Option<u32>
-        ensures { result ≡ next_by (kept_of self.now number) }
-    {
-        match self.kept(number) {
-            Kept::Owner(next) => next,
-            _ => None,
-        }
-    }
-
-    /// Returns the thread that the REQUEST with this number names as the owner. If it names none, that is the one that is
-    /// granted the mutex next, if its call had begun as the REQUEST was made, and it isn't the thread of the REQUEST.
-    /// `None` if no record says it.
-    pub fn asked_owner(&self, number: u64) -> Option<u32>
+    /// Returns of a RELEASE with this number the other thread that is granted the mutex next, if it calls nothing before: if it
+    /// waits for the mutex then, it waits until the grant. Of a REQUEST it is the thread that this names as the owner, or else
+    /// the other one that is granted the mutex next, if its call had begun by then. `None` if no record says it.
+    pub fn owner(&self, number: u64) -> Option<u32>
         ensures { result ≡ next_by (kept_of self.now number) }
     {
         match self.kept(number) {

@@ -152,7 +152,7 @@ impl Course {
             return LeftOut::Again;
         }
         self.correct_wait(thread, None);
-        let next = sources.next_owners.next_owner(record.number);
+        let next = sources.next_owners.owner(record.number);
         self.hand_over(thread, mutex, next);
         LeftOut::Uncontended
     }

@@ -19,7 +19,7 @@ pub(crate) fn owner_asked(
     ensures first { result ≡ first_other «record».now.thread
         (owners_asked (kept_of sources.now.next_owners «record».now.number) is_named mutex.now.owner mutex.now.last_owner) }
 {
-    let asked = sources.next_owners.asked_owner(record.number);
+    let asked = sources.next_owners.owner(record.number);
     if is_named {
         first_other(record.thread, [asked, mutex.owner, None, None])
     } else {

@@ -18,6 +18,7 @@ mod family;
 mod fault;
 mod ids;
 mod level;
+pub mod lists;
 mod tasks;
 
 pub use fact::{Fact, LeftOut, What};

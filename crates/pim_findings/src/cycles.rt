@@ -5,7 +5,7 @@ ghost use Rattle.pim_findings.specs.Deadlocks.{threads_of};
 ghost use Rattle.pim_findings.specs.Walks.{Found, IsWalk, is_seen, next_in};
 
 use crate::deadlock::Deadlock;
-use pim_course::lists::push;
+use pim_facts::lists::push;
 use std::alloc::{AllocError, Global};
 
 /// A walk from a number to the one that it leads to, and so on.

@@ -7,7 +7,7 @@ ghost use Rattle.pim_findings.specs.Walks.{next_in};
 use crate::cycles::cycles_of;
 use crate::deadlock::Deadlock;
 use pim_course::Course;
-use pim_course::lists::push;
+use pim_facts::lists::push;
 use std::alloc::{AllocError, Global};
 
 /// Returns the cycles of waits of a course, by the lowest threads that lead into them. Costs time in proportion to the

@@ -10,9 +10,9 @@ ghost use Rattle.pim_findings.specs.Longest.{capped};
 ghost use Rattle.pim_findings.specs.Queue.{AreEffective, AreSound, HasHighest, IsRaised, KeepsQueue, before_at, is_before_at, level_at, protects_at, queued_at};
 
 use crate::found_wait::FoundWait;
-use pim_course::lists::push;
 use pim_course::{Course, Sources, family_of};
 use pim_facts::Family;
+use pim_facts::lists::push;
 use std::alloc::{AllocError, Global};
 
 /// A wait that lasts.

@@ -2,8 +2,8 @@
 ghost use Rattle.std.specs.Prelude.{IsTrue};
 ghost use Rattle.pim_requests.specs.Asked.{IsGrant};
 
-use pim_course::lists::{get, set};
 use pim_facts::Ids;
+use pim_facts::lists::{get, set};
 use pim_log::{Event, LONGEST_CALL, Log, Record};
 use std::alloc::{AllocError, Global};
 

@@ -14,9 +14,9 @@ ghost use Rattle.pim_requests.specs.Asking.{KnowsAsked, asked_after};
 
 use crate::grants::{Grants, is_grant};
 use crate::waits::{Asked, Wait, asked_in};
-use pim_course::lists::{get, set};
 use pim_course::{Request, Requests, Sources, Walk};
 use pim_facts::Ids;
+use pim_facts::lists::{get, set};
 use pim_log::{Call, Event, Log, Record};
 use std::alloc::{AllocError, Global};
 

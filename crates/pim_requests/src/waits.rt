@@ -16,9 +16,9 @@ ghost use Rattle.pim_log.specs.Logs.{IsLog};
 ghost use Rattle.pim_requests.specs.Asked.{HasWait, IsIn, IsOfWait, IsWaitOf};
 ghost use Rattle.pim_requests.specs.Searching.{AreOfWaits, IsNextFrom, IsPendingOf, KnowsOpen, KnowsPlaces};
 
-use pim_course::lists::{get, set};
 use pim_course::{Course, Request, Sources, Walk};
 use pim_facts::Ids;
+use pim_facts::lists::{get, set};
 use pim_log::{Event, Log, Record};
 use std::alloc::{AllocError, Global};
 use std::collections::HashMap;

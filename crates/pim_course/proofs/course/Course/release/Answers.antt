@@ -33,13 +33,13 @@ returns-clause-told c =
     let b : Course = c.correct_wait.new.self in
     let new : Course = c.hand_over.new.self in
     let gone : World = after (world_of old) (GaveUp m) t in
-    let n = c.next_owner-next.result in
+    let n = c.owner-next.result in
     let heir : heir_in (world_of b) m n ≡ heir_in gone m n =
     heir-same (world_of b) gone m n
     (left-by (world_of old) (world_of b) t c.correct_wait.ensures.awaits c.correct_wait.ensures.others) in
     tells-same 2 _ _ old new
     (ap (λ next. gave_up_told (world_of old) t None ++ did (Released m next) t) (heir
-    ∙ ap (heir_in gone m) c.next_owner-next.ensures)
+    ∙ ap (heir_in gone m) c.owner-next.ensures)
     ∙ sym (if-not _ _ _ (none-of _ _ _
     (not-true _ (so-that _ _ _ (ap (λ z. z.owner) c.mutex-is.ensures)
     (grind (arith, c.ne.ensures, c.if-ne.false, c.if-ne.ensures))))
