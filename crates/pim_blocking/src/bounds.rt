@@ -155,7 +155,7 @@ impl Blocking {
         let threads = self.thread_count();
         let mutexes = self.sections.mutexes();
         let used = used_mutexes(alloc, seen, mutexes, thread, level)?;
-        let at_used = blocking_of(alloc, seen, &used, thread, level)?;
+        let under_protect = longest_at(seen, &used, thread, level);
         let reached = nested.reached(alloc, used)?;
         let blocking = blocking_of(alloc, seen, &reached, thread, level)?;
         let of_threads = longest_per(alloc, &blocking, Per::Thread, threads)?;
@@ -170,7 +170,7 @@ impl Blocking {
             thread,
             level,
             under_inherit: by_thread.min(by_mutex),
-            under_protect: longest_of(&at_used),
+            under_protect,
             sections,
             waited: blocked.waited,
         })
@@ -250,7 +250,7 @@ fn blocking_of(
 ) -> Result<Vec<Section>, AllocError>
     ensures { IfOk result (λ sections. sections.items ≡ blocking (is_in at.now) seen.now thread level) }
 {
-    let mut blocking = Vec::new(alloc);
+    let mut blocking = Vec::with_capacity(alloc, seen.len())?;
     for section in seen {
         if blocks(at, section, thread, level) {
             blocking.push(*section)?;
@@ -268,13 +268,16 @@ fn blocks(at: &[bool], section: &Section, thread: u32, level: u8) -> bool
     is_lower && at.get(mutex).copied().unwrap_or(false)
 }
 
-/// Returns how long the longest of some sections lasted. 0 if there is none.
-fn longest_of(sections: &[Section]) -> u64
-    ensures { result ≡ longest_in sections.now }
+/// Returns how long the longest section lasted that can block a thread of this level at one of these mutexes. 0 if there is
+/// none.
+fn longest_at(seen: &[Section], at: &[bool], thread: u32, level: u8) -> u64
+    ensures { result ≡ longest_in (blocking (is_in at.now) seen.now thread level) }
 {
     let mut longest = 0;
-    for section in sections {
-        longest = section.lasted.max(longest);
+    for section in seen {
+        if blocks(at, section, thread, level) {
+            longest = section.lasted.max(longest);
+        }
     }
     longest
 }

@@ -24,8 +24,9 @@ returns-clause-bound c =
     (λ m h. c.in_ok-used.ensures.each m (omega (arith, h, c.mutexes-mutexes.ensures))) in
     let these : c.in_ok-blocking.blocking.items ≡ blocking (is_in reached) seen thread level =
     c.in_ok-blocking.ensures ∙ ap (λ l. blocking (is_in l) seen thread level) c.deref-2.ensures.value in
-    let those : c.in_ok-at_used.at_used.items ≡ blocking (is_used_below k seen thread level) seen thread level =
-    c.in_ok-at_used.ensures ∙ ap (λ l. blocking (is_in l) seen thread level) c.deref.ensures.value
+    let those : blocking (is_in c.deref.result.now) seen thread level ≡
+    blocking (is_used_below k seen thread level) seen thread level =
+    ap (λ l. blocking (is_in l) seen thread level) c.deref.ensures.value
     ∙ blocking-same (is_in used) (is_used_below k seen thread level) same seen thread level in
     let blocked = blocking (is_in reached) seen thread level in
     let by_thread : c.sum_of-by_thread.result ≡ sum_of_longest per.Thread n blocked =
@@ -71,5 +72,5 @@ returns-clause-bound c =
             ∙ ap (λ ss. longest_of_number per.Mutex ss u) (c.deref-4.ensures.value
             ∙ sym w.deref-else-by_thread-by_mutex.ensures.value))))
       ];
-      under_protect = c.longest_of.ensures ∙ ap longest_in (c.deref-7.ensures.value ∙ those);
+      under_protect = c.longest_at-under_protect.ensures ∙ ap longest_in those;
     }
