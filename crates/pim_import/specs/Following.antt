@@ -23,6 +23,7 @@ use Rattle.pim_course.specs.declared.course.Sources.{Sources}
 use Rattle.pim_course.specs.declared.requests.Request.{Request}
 use Rattle.pim_course.specs.declared.walk.Walk.{Walk}
 use Rattle.pim_requests.specs.Asked.{IsPlaced, IsShown}
+use Rattle.pim_requests.specs.Complete.{HasThoseOfCalls}
 use Rattle.pim_requests.specs.Laws.{HasBoth}
 use Rattle.pim_requests.specs.declared.waits.Wait.{Wait}
 use Rattle.pim_findings.specs.Bounds.{FindsBounds, KnowsBlocking}
@@ -230,7 +231,8 @@ pub record KeepsThoseOfLog (bytes : List ℕ) (sources : Sources) (is_all : Bool
   pub keeps : KeepsThoseOf is_all (room_of bytes sources) (facts_of sources (last ∷ before)) sections
 
 -- What is found first is that of a log: whom each record is about, no thread with a number above 2 ^ 22, when the log
--- ended, who has a mutex next, and the requests that the log lacks, which its calls or these waits show.
+-- ended, who has a mutex next, and the requests that the log lacks, which its calls or these waits show; those of calls whose
+-- begin is known are all.
 pub record AreOfLog (bytes : List ℕ) (waits : List Wait) (sources : Sources) : Type 0 where
   pub covers : Covers sources.ids bytes
   pub few : HasFewThreads sources.ids
@@ -238,6 +240,7 @@ pub record AreOfLog (bytes : List ℕ) (waits : List Wait) (sources : Sources) :
   pub releases : FindsFrom bytes sources.ids sources.next_owners 1
   pub asked : FindsAskedFrom bytes sources.ids sources.next_owners 1
   pub requests : All (IsShown bytes sources.ids waits) sources.requests.list.items
+  pub calls : HasThoseOfCalls bytes sources.ids waits sources.requests.list.items
 
 -- an import was made from this: its sources, the numbers of those who take part, and their priorities
 pub record IsMadeFrom (context : Context) (imported : Imported) : Type 0 where

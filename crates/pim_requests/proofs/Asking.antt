@@ -16,7 +16,7 @@ use Rattle.pim_requests.specs.Asked.{HasMovedOn, IsIn, LacksRequest, is_answer, 
 use Rattle.pim_requests.specs.Asking.{KnowsAsked, asked_after}
 
 -- a log has one record with a number
-same-slot : (bytes : List ℕ) (s t n : ℕ) → IsLog bytes → IsNumbered bytes s n → IsNumbered bytes t n → s ≡ t
+pub same-slot : (bytes : List ℕ) (s t n : ℕ) → IsLog bytes → IsNumbered bytes s n → IsNumbered bytes t n → s ≡ t
 same-slot bytes s t n log a b = elim (cases_lt s t) [
   | inl lt ↦ absurd ((log.slots t b.slot).own (record { number = n; earlier = s; before = lt; first = a; again = b }))
   | inr ge ↦ elim (cases_lt t s) [
@@ -66,13 +66,13 @@ same-thread bytes a r log has is e =
           ∙ sym (request-code (fields_in bytes is.slot) r.event is.is.event),
     )
 
-after-length : (q w : Bool) (t : ℕ) (m : Option ℕ) (list : List (Option ℕ)) →
+pub after-length : (q w : Bool) (t : ℕ) (m : Option ℕ) (list : List (Option ℕ)) →
     length (cond q (set list t m) (cond w (set list t None) list)) ≡ length list
 after-length true w t m list = length-set list t m
 after-length false true t m list = length-set list t None
 after-length false false t m list = refl
 
-after-other : (q w : Bool) (t : ℕ) (m : Option ℕ) (k : ℕ) (list : List (Option ℕ)) → k ≢ t →
+pub after-other : (q w : Bool) (t : ℕ) (m : Option ℕ) (k : ℕ) (list : List (Option ℕ)) → k ≢ t →
     get_or (cond q (set list t m) (cond w (set list t None) list)) k None ≡ get_or list k None
 after-other true w t m k list other = get_or-set_other list t k m None other
 after-other false true t m k list other = get_or-set_other list t k None None other
@@ -84,7 +84,8 @@ after-kind true w t m list = inr refl
 after-kind false true t m list = inr refl
 after-kind false false t m list = inl refl
 
-after-request : (q w : Bool) (t : ℕ) (m : Option ℕ) (k : ℕ) (list : List (Option ℕ)) → q ≡ true → k ≡ t → t < length list →
+pub after-request : (q w : Bool) (t : ℕ) (m : Option ℕ) (k : ℕ) (list : List (Option ℕ)) → q ≡ true → k ≡ t →
+    t < length list →
     get_or (cond q (set list t m) (cond w (set list t None) list)) k None ≡ m
 after-request true w t m k list e same lt = get_or-set_at list t k m None same lt
 after-request false w t m k list e same lt = cc

@@ -1,4 +1,6 @@
 pub mod Asking
+pub mod Completing
+pub mod Granting
 pub mod Having
 pub mod Placed
 pub mod Placing

@@ -5,15 +5,17 @@ use Rattle.std.specs.Prelude.{All, IfSome, slice_get}
 use Rattle.std.proofs.lemmas.Bool.{cases_eq, cases_lt}
 use Rattle.std.proofs.lemmas.Grind.{get_or-set_at}
 use Rattle.std.proofs.lemmas.List.{get_or-replicate, get_or-set_other, get_or_past, length-replicate, length-set}
-use Rattle.std.proofs.lemmas.List.Elements.{All-from_get_or, All-get_or, All-nil}
-use Rattle.std.proofs.lemmas.Option.{slice_get-get_or, slice_get_within}
+use Rattle.std.proofs.lemmas.List.Elements.{All-from_get_or, All-get_or, All-nil, All-push, All-same, All-weaker}
+use Rattle.std.proofs.lemmas.Option.{get_or_from_slice_get, slice_get-get_or, slice_get_within}
 use Rattle.pim_log.specs.Headers.{end_of, header_of}
 use Rattle.pim_log.specs.Logs.{IsLog, IsNumbered}
 use Rattle.pim_log.specs.declared.record.Record.{Record}
 use Rattle.pim_facts.specs.declared.ids.Ids.{Ids}
 use Rattle.pim_course.specs.declared.requests.Request.{Request}
-use Rattle.pim_requests.specs.Asked.{HasNext, HasPlace, HasWait, IsIn, IsOfWait}
-use Rattle.pim_requests.specs.Searching.{IsNextFrom, IsOpen, KnowsLast, KnowsOpen, KnowsPlaces}
+use Rattle.pim_requests.specs.Asked.{HasNext, HasPlace, HasWait, IsIn, IsNextOf, IsOfWait}
+use Rattle.pim_requests.specs.Granting.{HasEnded}
+use Rattle.pim_requests.specs.Searching.{HasEnd, IsNextFrom, IsOpen, KnowsEnds, KnowsLast, KnowsOpen, KnowsPlaces}
+use Rattle.pim_requests.specs.declared.waits.Asked.{Asked}
 use Rattle.pim_requests.specs.declared.waits.Search.{Search}
 use Rattle.pim_requests.specs.declared.waits.Wait.{Wait}
 use Rattle.pim_requests.proofs.Asking.{same-thread}
@@ -51,6 +53,7 @@ open-on : (bytes : List ℕ) (n : ℕ) (r : Record) (q : Request) → IsLog byte
     q.thread ≢ r.thread → IsOpen bytes n q → IsOpen bytes (n + 1) q
 open-on bytes n r q log has at other fresh = record {
   place = fresh.place;
+  above = fresh.above;
   none = λ x is thread below. elim (cases_lt x.number n) [
     | inl lt ↦ fresh.none x is thread lt
     | inr ge ↦
@@ -65,6 +68,7 @@ open-past : (bytes : List ℕ) (n : ℕ) (q : Request) → ((slot : ℕ) → IsN
     IsOpen bytes (n + 1) q
 open-past bytes n q lacks fresh = record {
   place = fresh.place;
+  above = fresh.above;
   none = λ x is thread below. elim (cases_lt x.number n) [
     | inl lt ↦ fresh.none x is thread lt
     | inr ge ↦
@@ -79,6 +83,7 @@ open-end : (bytes : List ℕ) (n m : ℕ) (q : Request) → end_of (header_of by
     IsOpen bytes n q → IsOpen bytes m q
 open-end bytes n m q low high fresh = record {
   place = fresh.place;
+  above = fresh.above;
   none = λ x is thread below. fresh.none x is thread (omega (arith, is.numbered.below, low));
   later = λ x is thread from. absurd (omega (arith, is.numbered.below, high, from));
 }
@@ -105,25 +110,29 @@ known-none bytes n r asked list log has at free known =
     (λ same. let none : get_or asked t None ≡ None = ap (λ x. get_or asked x None) (sym thread ∙ same) ∙ free in absurd (cc))
     fresh) known
 
+-- the record is the next one of the request's thread
+next-of : (bytes : List ℕ) (n : ℕ) (r : Record) (q p : Request) → IsIn bytes r → r.number ≡ n → q.thread ≡ r.thread →
+    IsOpen bytes n q → p ≡ record q { place = r.place } → IsNextOf bytes p r
+next-of bytes n r q p has at thread fresh e = record {
+  has = has;
+  thread = sym thread ∙ sym (ap (λ x. x.thread) e);
+  behind = subst (λ x. x < r.number) (sym (ap (λ x. x.after) e)) (fresh.later r has (sym thread) (omega (arith, at)));
+  first = λ x is same behind. elim (cases_lt x.number n) [
+    | inl lt ↦ absurd (
+        let upto : x.number ≤ q.after = fresh.none x is (same ∙ ap (λ y. y.thread) e) lt in
+        let after : p.after ≡ q.after = ap (λ y. y.after) e in
+        omega (arith, upto, after, behind)
+        )
+    | inr ge ↦ omega (arith, ge, at)
+  ];
+}
+
 -- the request has the place of the record
 placed : (bytes : List ℕ) (n : ℕ) (r : Record) (q p : Request) → IsIn bytes r → r.number ≡ n → q.thread ≡ r.thread →
     IsOpen bytes n q → p ≡ record q { place = r.place } → HasNext bytes p
 placed bytes n r q p has at thread fresh e = record {
   next = r;
-  is = record {
-    has = has;
-    thread = sym thread ∙ sym (ap (λ x. x.thread) e);
-    behind = subst (λ x. x < r.number) (sym (ap (λ x. x.after) e))
-        (fresh.later r has (sym thread) (omega (arith, at)));
-    first = λ x is same behind. elim (cases_lt x.number n) [
-      | inl lt ↦ absurd (
-          let upto : x.number ≤ q.after = fresh.none x is (same ∙ ap (λ y. y.thread) e) lt in
-          let after : p.after ≡ q.after = ap (λ y. y.after) e in
-          omega (arith, upto, after, behind)
-          )
-      | inr ge ↦ omega (arith, ge, at)
-    ];
-  };
+  is = next-of bytes n r q p has at thread fresh e;
   place = ap (λ x. x.place) e;
 }
 
@@ -258,6 +267,136 @@ last-past bytes n list lacks known = λ x is below lt. elim (cases_lt x.number n
       absurd (lacks is.slot (subst (λ k. IsNumbered bytes is.slot k) e is.numbered))
 ]
 
+-- the same ends behind another number
+ends-on : (bytes : List ℕ) (n : ℕ) (list : List Request) (ends : List ℕ) → All (HasEnd bytes n list) ends →
+    All (HasEnd bytes (n + 1) list) ends
+ends-on bytes n list ends all =
+    All-weaker (HasEnd bytes n list) (HasEnd bytes (n + 1) list)
+    (λ k that. let below = that.below in record {
+      place = that.place;
+      request = that.request;
+      has = that.has;
+      above = that.above;
+      end = that.end;
+      ends = that.ends;
+      last = that.last;
+      below = omega (arith, below);
+    })
+    ends all
+
+ends-end : (bytes : List ℕ) (n m : ℕ) (list : List Request) (ends : List ℕ) → end_of (header_of bytes) ≤ m →
+    All (HasEnd bytes n list) ends → All (HasEnd bytes m list) ends
+ends-end bytes n m list ends high all =
+    All-weaker (HasEnd bytes n list) (HasEnd bytes m list)
+    (λ k that.
+    let low = that.ends.has.numbered.below in
+    let last = that.last in
+    record {
+      place = that.place;
+      request = that.request;
+      has = that.has;
+      above = that.above;
+      end = that.end;
+      ends = that.ends;
+      last = that.last;
+      below = omega (arith, low, last, high);
+    })
+    ends all
+
+ends-more : (bytes : List ℕ) (n : ℕ) (list new : List Request) (q : Request) (ends : List ℕ) → new ≡ list ++ q ∷ [] →
+    All (HasEnd bytes n list) ends → All (HasEnd bytes n new) ends
+ends-more bytes n list new q ends more all =
+    All-weaker (HasEnd bytes n list) (HasEnd bytes n new)
+    (λ k that. record {
+      place = that.place;
+      request = that.request;
+      has =
+          ap (λ l. slice_get l that.place) more ∙ got-before list (q ∷ []) that.place that.request that.has;
+      above = that.above;
+      end = that.end;
+      ends = that.ends;
+      last = that.last;
+      below = that.below;
+    })
+    ends all
+
+-- behind a record of a thread that has no open request
+pub ends-none : (bytes : List ℕ) (n : ℕ) (found : Asked) → KnowsEnds bytes n found → KnowsEnds bytes (n + 1) found
+ends-none bytes n found known = ends-on bytes n found.list.items found.ends.items known
+
+-- behind a record of a thread that has an open request, whose wait ends with the record
+pub ends-placed : (bytes : List ℕ) (r : Record) (k : ℕ) (asked : List (Option ℕ)) (old new : Asked) → IsIn bytes r →
+    get_or asked r.thread None ≡ Some k →
+    ((i : ℕ) → i ≢ k → slice_get new.list.items i ≡ slice_get old.list.items i) →
+    ((q : Request) → slice_get old.list.items k ≡ Some q →
+    slice_get new.list.items k ≡ Some (record q { place = r.place })) →
+    new.ends.items ≡ old.ends.items ++ r.number ∷ [] → KnowsOpen bytes r.number asked old.list.items →
+    KnowsEnds bytes r.number old → KnowsEnds bytes (r.number + 1) new
+ends-placed bytes r k asked old new has got others here put opened known =
+    let own : (q : Request) × ((slice_get old.list.items k ≡ Some q) × ((q.thread ≡ r.thread)
+    × IsOpen bytes r.number q)) = opened.those r.thread k got in
+    let q = own.0 in
+    let p = record q { place = r.place } in
+    let fresh : IsOpen bytes r.number q = own.1.1.1 in
+    All-same (HasEnd bytes (r.number + 1) new.list.items) _ _ put
+    (All-push (HasEnd bytes (r.number + 1) new.list.items) old.ends.items r.number
+    (All-weaker (HasEnd bytes r.number old.list.items) (HasEnd bytes (r.number + 1) new.list.items)
+    (λ n that.
+    let below = that.below in
+    let last = that.last in
+    let apart : that.place ≢ k =
+    λ same.
+    let both : Some that.request ≡ Some q = sym that.has ∙ ap (λ i. slice_get old.list.items i) same ∙ own.1.0 in
+    let one : that.request ≡ q = cc in
+    let thread : that.end.thread ≡ q.thread = that.ends.thread ∙ ap (λ (x : Request). x.thread) one in
+    let upto : that.end.number ≤ q.after = fresh.none that.end that.ends.has thread (omega (arith, below, last)) in
+    let behind : that.request.after < that.end.number = that.ends.behind in
+    let after : that.request.after ≡ q.after = ap (λ (x : Request). x.after) one in
+    omega (arith, upto, behind, after) in
+    record {
+      place = that.place;
+      request = that.request;
+      has = others that.place apart ∙ that.has;
+      above = that.above;
+      end = that.end;
+      ends = that.ends;
+      last = that.last;
+      below = omega (arith, below);
+    })
+    old.ends.items known)
+    (record {
+      place = k;
+      request = p;
+      has = here q own.1.0;
+      above = fresh.above;
+      end = r;
+      ends = next-of bytes r.number r q p has refl own.1.1.0 fresh refl;
+      last = refl;
+      below = omega arith;
+    }))
+
+-- each end of a wait is that of a request of the list
+pub all-ended : (bytes : List ℕ) (ids : Ids) (waits : List Wait) (n : ℕ) (list : List Request) (ends : List ℕ) →
+    All (IsOfWait bytes ids waits) list → All (HasEnd bytes n list) ends → All (HasEnded bytes ids waits list) ends
+all-ended bytes ids waits n list ends shown all =
+    All-weaker (HasEnd bytes n list) (HasEnded bytes ids waits list)
+    (λ k that.
+    let lt = slice_get_within list that.place that.request that.has in
+    let at : get_or list that.place that.request ≡ that.request =
+    get_or_from_slice_get list that.place that.request that.request that.has in
+    record {
+      request = that.request;
+      has = (that.place, lt, at);
+      is =
+          subst (λ (q : Request). IsOfWait bytes ids waits q) at
+          (All-get_or (IsOfWait bytes ids waits) list that.place that.request lt shown);
+      above = that.above;
+      end = that.end;
+      ends = that.ends;
+      last = that.last;
+    })
+    ends all
+
 -- behind a number that no record has
 pub places-past : (bytes : List ℕ) (ids : Ids) (n : ℕ) (s : Search) → ((slot : ℕ) → IsNumbered bytes slot n → ⊥) →
     KnowsPlaces bytes ids n s → KnowsPlaces bytes ids (n + 1) s
@@ -268,6 +407,7 @@ places-past bytes ids n s lacks knows = record {
   asked =
       others-open bytes n (n + 1) s.asked.items s.found.list.items (λ t k q e thread fresh. open-past bytes n q lacks fresh)
       knows.asked;
+  ends = ends-on bytes n s.found.list.items s.found.ends.items knows.ends;
 }
 
 -- behind the end of a log
@@ -280,6 +420,7 @@ places-end bytes ids n m s low high knows = record {
   asked =
       others-open bytes n m s.asked.items s.found.list.items (λ t k q e thread fresh. open-end bytes n m q low high fresh)
       knows.asked;
+  ends = ends-end bytes n m s.found.list.items s.found.ends.items high knows.ends;
 }
 
 -- a search that knows the same
@@ -292,9 +433,10 @@ places-kept bytes ids n s t last asked found knows = record {
   asked =
       subst (λ v. KnowsOpen bytes n t.asked.items v.list.items) (sym found)
       (subst (λ v. KnowsOpen bytes n v.items s.found.list.items) (sym asked) knows.asked);
+  ends = subst (λ (v : Asked). KnowsEnds bytes n v) (sym found) knows.ends;
 }
 
-none-in : (n t k : ℕ) (xs : List (Option ℕ)) → xs ≡ replicate n None → get_or xs t None ≡ Some k → ⊥
+pub none-in : (n t k : ℕ) (xs : List (Option ℕ)) → xs ≡ replicate n None → get_or xs t None ≡ Some k → ⊥
 none-in n t k xs same e = elim (cases_lt t n) [
   | inl lt ↦
       let none : get_or xs t None ≡ None = ap (λ l. get_or l t None) same ∙ get_or-replicate n t None None lt in
@@ -306,8 +448,9 @@ none-in n t k xs same e = elim (cases_lt t n) [
 
 -- before the first record
 pub places-first : (bytes : List ℕ) (ids : Ids) (s : Search) → s.last.items ≡ replicate (length ids.threads.items) None →
-    s.asked.items ≡ replicate (length ids.threads.items) None → s.found.list.items ≡ [] → KnowsPlaces bytes ids 1 s
-places-first bytes ids s last asked found = record {
+    s.asked.items ≡ replicate (length ids.threads.items) None → s.found.list.items ≡ [] → s.found.ends.items ≡ [] →
+    KnowsPlaces bytes ids 1 s
+places-first bytes ids s last asked found ends = record {
   last_room = ap length last ∙ length-replicate (length ids.threads.items) None;
   asked_room = ap length asked ∙ length-replicate (length ids.threads.items) None;
   last = λ x is below lt. absurd (omega (arith, is.numbered.above, below));
@@ -315,6 +458,7 @@ places-first bytes ids s last asked found = record {
     those = λ t k e. absurd (none-in (length ids.threads.items) t k s.asked.items asked e);
     others = λ k p e. absurd (let none : None ≡ Some p = ap (λ l. slice_get l k) (sym found) ∙ e in cc);
   };
+  ends = All-same (HasEnd bytes 1 s.found.list.items) _ _ ends (All-nil (HasEnd bytes 1 s.found.list.items));
 }
 
 upto : (bytes : List ℕ) (n : ℕ) (last : List (Option ℕ)) (q : Request) (x : Record) → q.thread < length last →
@@ -328,11 +472,12 @@ upto bytes n last q x lt behind is thread below knows =
     omega (arith, low, at.1.1)
 
 -- a request behind the last record of its thread that belongs before the next one
-pub is-open : (bytes : List ℕ) (n next : ℕ) (last : List (Option ℕ)) (q : Request) → q.place ≡ None →
+pub is-open : (bytes : List ℕ) (n next : ℕ) (last : List (Option ℕ)) (q : Request) → q.place ≡ None → 0 < q.after →
     q.thread < length last → IfSome (get_or last q.thread None) (λ l. l ≤ q.after) → q.after < next →
     IsNextFrom bytes q.thread n next → KnowsLast bytes n last → IsOpen bytes n q
-is-open bytes n next last q place lt behind before from knows = record {
+is-open bytes n next last q place above lt behind before from knows = record {
   place = place;
+  above = above;
   none = λ x is thread below. upto bytes n last q x lt behind is thread below knows;
   later = λ x is thread ge. let above : next ≤ x.number = from x is thread ge in omega (arith, above, before);
 }
@@ -391,11 +536,12 @@ all-placed bytes ids waits n s list same end all knows =
 -- with another request
 pub places-more : (bytes : List ℕ) (ids : Ids) (n next : ℕ) (s t : Search) (q : Request) → t.last ≡ s.last →
     t.asked.items ≡ set s.asked.items q.thread (Some (length s.found.list.items)) →
-    t.found.list.items ≡ s.found.list.items ++ q ∷ [] → get_or s.asked.items q.thread None ≡ None →
+    t.found.list.items ≡ s.found.list.items ++ q ∷ [] → t.found.ends ≡ s.found.ends → 0 < q.after →
+    get_or s.asked.items q.thread None ≡ None →
     IfSome (get_or s.last.items q.thread None) (λ l. l ≤ q.after) → q.after < next →
     q.thread < length ids.threads.items → q.place ≡ None → IsNextFrom bytes q.thread n next → KnowsPlaces bytes ids n s →
     KnowsPlaces bytes ids n t
-places-more bytes ids n next s t q last put more free behind before lt place from knows =
+places-more bytes ids n next s t q last put more ends above free behind before lt place from knows =
     let in_asked : q.thread < length s.asked.items = subst (λ k. q.thread < k) (sym knows.asked_room) lt in
     let in_last : q.thread < length s.last.items = subst (λ k. q.thread < k) (sym knows.last_room) lt in
     record {
@@ -404,7 +550,10 @@ places-more bytes ids n next s t q last put more free behind before lt place fro
       last = subst (λ v. KnowsLast bytes n v.items) (sym last) knows.last;
       asked =
           known-more bytes n s.asked.items t.asked.items s.found.list.items t.found.list.items q free in_asked
-          (is-open bytes n next s.last.items q place in_last behind before from knows.last) put more knows.asked;
+          (is-open bytes n next s.last.items q place above in_last behind before from knows.last) put more knows.asked;
+      ends =
+          All-same (HasEnd bytes n t.found.list.items) _ _ (ap (λ v. v.items) ends)
+          (ends-more bytes n s.found.list.items t.found.list.items q s.found.ends.items more knows.ends);
     }
 
 -- the thread of a request of a wait is one of the log
@@ -430,9 +579,10 @@ next-from bytes r t next log has own other = λ x is thread from. elim (cases_eq
 pub places-on : (bytes : List ℕ) (ids : Ids) (r : Record) (s m t : Search) → IsLog bytes → IsIn bytes r → m.last ≡ s.last →
     length m.asked.items ≡ length s.asked.items →
     KnowsOpen bytes (r.number + 1) m.asked.items m.found.list.items →
+    KnowsEnds bytes (r.number + 1) m.found →
     t.last.items ≡ set m.last.items r.thread (Some r.number) → t.asked ≡ m.asked → t.found ≡ m.found →
     KnowsPlaces bytes ids r.number s → KnowsPlaces bytes ids (r.number + 1) t
-places-on bytes ids r s m t log has last size known put asked found knows =
+places-on bytes ids r s m t log has last size known ends put asked found knows =
     let old : KnowsLast bytes r.number m.last.items =
     subst (λ v. KnowsLast bytes r.number v.items) (sym last) knows.last in
     record {
@@ -443,6 +593,7 @@ places-on bytes ids r s m t log has last size known put asked found knows =
       asked =
           subst (λ v. KnowsOpen bytes (r.number + 1) t.asked.items v.list.items) (sym found)
           (subst (λ v. KnowsOpen bytes (r.number + 1) v.items m.found.list.items) (sym asked) known);
+      ends = subst (λ (v : Asked). KnowsEnds bytes (r.number + 1) v) (sym found) ends;
     }
 
 -- a pending request that belongs behind the last record of its thread in a log

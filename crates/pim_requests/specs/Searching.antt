@@ -4,7 +4,8 @@ use Rattle.std.specs.Prelude.{slice_index_or}
 use Rattle.pim_log.specs.declared.record.Record.{Record}
 use Rattle.pim_facts.specs.declared.ids.Ids.{Ids}
 use Rattle.pim_course.specs.declared.requests.Request.{Request}
-use Rattle.pim_requests.specs.Asked.{HasNext, HasWait, IsIn}
+use Rattle.pim_requests.specs.Asked.{HasNext, HasWait, IsIn, IsNextOf}
+use Rattle.pim_requests.specs.declared.waits.Asked.{Asked}
 use Rattle.pim_requests.specs.declared.waits.Pending.{Pending}
 use Rattle.pim_requests.specs.declared.waits.Search.{Search}
 use Rattle.pim_requests.specs.declared.waits.Wait.{Wait}
@@ -29,9 +30,11 @@ KnowsLast bytes number list =
     (r : Record) → IsIn bytes r → r.number < number → r.thread < length list →
     (last : ℕ) × ((slice_index_or list r.thread None ≡ Some last) × (r.number ≤ last))
 
--- the records of a request's thread behind it are those from a number on, and the request has no place so far
+-- the records of a request's thread behind it are those from a number on, and the request has no place so far; it belongs
+-- behind a record
 pub record IsOpen (bytes : List ℕ) (number : ℕ) (request : Request) : Type 0 where
   pub place : request.place ≡ None
+  pub above : 0 < request.after
   pub none : (r : Record) → IsIn bytes r → r.thread ≡ request.thread → r.number < number → r.number ≤ request.after
   pub later : (r : Record) → IsIn bytes r → r.thread ≡ request.thread → number ≤ r.number → request.after < r.number
 
@@ -44,9 +47,25 @@ pub record KnowsOpen (bytes : List ℕ) (number : ℕ) (asked : List (Option ℕ
   pub others : (k : ℕ) (request : Request) → slice_get requests k ≡ Some request →
       HasNext bytes request ⊎ (slice_index_or asked request.thread None ≡ Some k)
 
+-- a list has the request of a wait that ended with the record with a number, which is below another number
+pub record HasEnd (bytes : List ℕ) (number : ℕ) (list : List Request) (n : ℕ) : Type 0 where
+  pub place : ℕ
+  pub request : Request
+  pub has : slice_get list place ≡ Some request
+  pub above : 0 < request.after
+  pub end : Record
+  pub ends : IsNextOf bytes request end
+  pub last : end.number ≡ n
+  pub below : n < number
+
+-- so it has those of all ends of waits
+abbrev pub KnowsEnds : List ℕ → ℕ → Asked → Type 0
+KnowsEnds bytes number found = All (HasEnd bytes number found.list.items) found.ends.items
+
 -- a search that went past the records below a number knows which places its requests have, or will have
 pub record KnowsPlaces (bytes : List ℕ) (ids : Ids) (number : ℕ) (search : Search) : Type 0 where
   pub last_room : length search.last.items ≡ length ids.threads.items
   pub asked_room : length search.asked.items ≡ length ids.threads.items
   pub last : KnowsLast bytes number search.last.items
   pub asked : KnowsOpen bytes number search.asked.items search.found.list.items
+  pub ends : KnowsEnds bytes number search.found

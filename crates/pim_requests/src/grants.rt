@@ -1,25 +1,37 @@
 //! When the mutexes of a log were granted.
-ghost use Rattle.std.specs.Prelude.{IsTrue};
-ghost use Rattle.pim_requests.specs.Asked.{IsGrant};
+ghost use Rattle.std.specs.Prelude.{◌≡◌, ◌+◌, ◌<◌, ◌≤◌, ℕ, IfOk, IsTrue, List, OnOk, Some, length, max};
+ghost use Rattle.std.specs.Option.{unwrap_or};
+ghost use Rattle.pim_log.specs.Logs.{IsLog, began_of};
+ghost use Rattle.pim_log.specs.declared.record.Record.{Record};
+ghost use Rattle.pim_facts.specs.Levels.{id_of};
+ghost use Rattle.pim_facts.specs.declared.ids.Ids.{Ids};
+ghost use Rattle.pim_requests.specs.Asked.{IsGrant, IsIn};
+ghost use Rattle.pim_requests.specs.Complete.{IsFirstAfter};
+ghost use Rattle.pim_requests.specs.Granting.{KnowsAll, KnowsGrants, at, latest_of};
 
 use pim_facts::Ids;
-use pim_facts::lists::{get, set};
+use pim_facts::lists::{get, push, set};
 use pim_log::{Event, LONGEST_CALL, Log, Record};
 use std::alloc::{AllocError, Global};
 
-/// The grants of each mutex so far, in order. Its owner may be granted it again.
+/// A grant of a mutex. Its owner may be granted it again.
+#[derive(Clone, Copy, PartialEq, Eq)]
+pub struct Grant {
+    /// The number of its record.
+    pub number: u64,
+    /// The latest time of the grants of the mutex up to this one: its own time, unless the log is damaged.
+    pub latest: u64,
+    /// The number of the grant since which its thread owns the mutex.
+    pub first: u64,
+    /// The time at which the mutex was released after it, or [`LASTING`].
+    pub end: u64,
+}
+
+/// The grants so far.
 #[derive(Drop)]
 pub(crate) struct Grants {
-    /// The numbers of the records, those of each mutex together.
-    numbers: Vec<u64>,
-    /// By the place of a grant that of the one since which its thread owns the mutex.
-    firsts: Vec<u32>,
-    /// By the place of a grant the time at which the mutex was released after it, or [`LASTING`].
-    ends: Vec<u64>,
-    /// Where those of each mutex begin.
-    begins: Vec<u32>,
-    /// Behind the last one so far.
-    passed: Vec<u32>,
+    /// By mutex, in the order of the records.
+    of: Vec<Vec<Grant>>,
 }
 
 /// The end of an ownership that lasts, or lasts at the next grant.
@@ -28,128 +40,170 @@ const LASTING: u64 = u64::MAX;
 /// Returns whether a call ends with this record that got its mutex.
 #[inline(always)]
 pub(crate) fn is_grant(record: &Record) -> bool
-    ensures { IsTrue result → IsGrant record.now.event }
+    ensures is { IsTrue result → IsGrant record.now.event }
+    ensures all { IsGrant record.now.event → IsTrue result }
 {
     matches!(record.event, Event::Granted { .. })
 }
 
-/// Returns when the call began that ends with this record. If the record doesn't say it, the call began then or earlier.
-fn latest_begin(record: &Record) -> Option<u64> {
-    match record.began() {
-        Some(began) => Some(began),
-        None => Some(record.time?.saturating_sub(LONGEST_CALL as u64)),
-    }
-}
-
 impl Grants {
     /// Returns room for the grants of each mutex of the log.
-    pub fn of(alloc: Global, log: &Log, ids: &Ids) -> Result<Grants, AllocError> {
-        let mut begins = vec![in alloc; 0; ids.mutexes.len()]?;
-        for number in 1..log.header().end() {
-            let Some(record) = log.record(number) else {
-                continue;
-            };
-            if !is_grant(&record) {
-                continue;
-            }
-            if let Some(mutex) = ids.of_record(number) {
-                count(&mut begins, mutex);
-            }
+    pub fn of(alloc: Global, log: &Log, ids: &Ids) -> Result<Grants, AllocError>
+        ensures { IfOk result (KnowsAll log.now ids.now 1) }
+    {
+        let counts = counts_of(alloc, log, ids)?;
+        let mut of = Vec::with_capacity(alloc, ids.mutexes.len())?;
+        for mutex in 0..ids.mutexes.len() {
+            let count = counts.get(mutex).copied().unwrap_or(0);
+            of.push(Vec::with_capacity(alloc, count as usize)?)?;
         }
-        let total = begin_each(&mut begins) as usize;
-        Ok(Grants {
-            numbers: vec![in alloc; 0; total]?,
-            firsts: vec![in alloc; 0; total]?,
-            ends: vec![in alloc; LASTING; total]?,
-            passed: begins.clone()?,
-            begins,
-        })
+        Ok(Grants { of })
     }
 
     /// Goes past a record of a mutex, which had the first owner before it and has the second one behind it.
-    pub fn pass(&mut self, record: &Record, mutex: u32, before: Option<u32>, owner: Option<u32>) {
-        let place = get(&self.passed, mutex);
-        let last = place.saturating_sub(1);
-        if before.is_some() && before != owner {
-            set(&mut self.ends, last, record.time.unwrap_or(LASTING));
-        }
-        if is_grant(record) {
-            let is_again = before == Some(record.thread);
-            let first = if is_again {
-                get(&self.firsts, last)
-            } else {
-                place
-            };
-            set(&mut self.numbers, place, record.number);
-            set(&mut self.firsts, place, first);
-            count(&mut self.passed, mutex);
-        }
+    ///
+    /// # Errors
+    ///
+    /// Returns `AllocError` if out of memory.
+    pub fn pass(
+        &mut self,
+        record: &Record,
+        mutex: u32,
+        before: Option<u32>,
+        owner: Option<u32>,
+    ) -> Result<(), AllocError>
+        ensures { (bytes : List ℕ) (ids : Ids) → IsLog bytes → IsIn bytes record.now →
+            id_of ids record.now.number ≡ Some mutex → KnowsAll bytes ids record.now.number self.old →
+            OnOk result (KnowsAll bytes ids (record.now.number + 1) self.new) }
+    {
+        let Some(grants) = self.of.get_mut(mutex as usize) else {
+            return Ok(());
+        };
+        go_past(grants, record, before, owner)?;
+        Ok(())
     }
 
     /// Returns the number of the first grant of the mutex to another since the call of this record began, and before the
     /// record. If the record doesn't say when that was, the mutex may be owned at the latest time at which the call began.
     /// The grant since which it was is later than the begin of the call, which found the mutex free.
-    pub fn first_since(&self, log: &Log, record: &Record, mutex: u32) -> Option<u64> {
-        let latest = latest_begin(record)?;
-        let end = get(&self.passed, mutex);
-        let next = self.first_after(log, mutex, latest);
-        let place = match next.checked_sub(1) {
-            Some(before)
-                if record.began().is_none()
-                    && before >= get(&self.begins, mutex)
-                    && get(&self.ends, before) > latest => { get(&self.firsts, before) }
-            _ => next,
+    pub fn first_since(&self, record: &Record, mutex: u32) -> Option<u64>
+        ensures { (bytes : List ℕ) (ids : Ids) (begin : ℕ) (grant : Record) → KnowsAll bytes ids record.now.number self.now →
+            mutex < length ids.mutexes.items → began_of record.now ≡ Some begin → IsFirstAfter bytes ids mutex begin grant →
+            grant.number < record.now.number → result ≡ Some grant.number }
+    {
+        let grants = self.of.get(mutex as usize)?;
+        match record.began() {
+            Some(began) => next_after(grants, began),
+            None => next_or_owned(grants, record),
+        }
+    }
+}
+
+/// Returns how many grants of each mutex a log has.
+fn counts_of(alloc: Global, log: &Log, ids: &Ids) -> Result<Vec<u32>, AllocError> {
+    let mut counts = vec![in alloc; 0u32; ids.mutexes.len()]?;
+    for number in 1..log.header().end() {
+        let Some(record) = log.record(number) else {
+            continue;
         };
-        if place >= end || self.thread(log, place) == Some(record.thread) {
-            return None;
+        if !is_grant(&record) {
+            continue;
         }
-        self.numbers.get(place as usize).copied()
-    }
-
-    /// Returns the place of the first grant of a mutex after this time, or the end of its grants so far.
-    fn first_after(&self, log: &Log, mutex: u32, time: u64) -> u32 {
-        let (mut low, mut high) = (get(&self.begins, mutex), get(&self.passed, mutex));
-        // Halves what is left, which has at most 2^32 places.
-        for _round in 0..33 {
-            if low >= high {
-                break;
-            }
-            let middle = low + (high - low) / 2;
-            match self.time(log, middle) {
-                Some(at) if at > time => high = middle,
-                _ => low = middle + 1,
-            }
+        if let Some(mutex) = ids.of_record(number) {
+            let counted = get(&counts, mutex);
+            set(&mut counts, mutex, counted.saturating_add(1));
         }
-        low
     }
+    Ok(counts)
+}
 
-    fn time(&self, log: &Log, place: u32) -> Option<u64> {
-        self.grant(log, place)?.time
+/// Goes past a record of the mutex with these grants.
+fn go_past(
+    grants: &mut Vec<Grant>,
+    record: &Record,
+    before: Option<u32>,
+    owner: Option<u32>,
+) -> Result<(), AllocError>
+    ensures { (bytes : List ℕ) (ids : Ids) (m : ℕ) → IsLog bytes → IsIn bytes record.now →
+        id_of ids record.now.number ≡ Some m → KnowsGrants bytes ids m record.now.number grants.old.items →
+        OnOk result (KnowsGrants bytes ids m (record.now.number + 1) grants.new.items) }
+{
+    end_last(grants, record, before, owner);
+    if !is_grant(record) {
+        return Ok(());
     }
+    let grant = grant_of(grants, record, before == Some(record.thread));
+    push(grants, grant)?;
+    Ok(())
+}
 
-    fn thread(&self, log: &Log, place: u32) -> Option<u32> {
-        Some(self.grant(log, place)?.thread)
+/// The last grant ends with this record, if that changes who owns the mutex.
+fn end_last(grants: &mut Vec<Grant>, record: &Record, before: Option<u32>, owner: Option<u32>)
+    ensures { (bytes : List ℕ) (ids : Ids) (m number : ℕ) → KnowsGrants bytes ids m number grants.old.items →
+        KnowsGrants bytes ids m number grants.new.items }
+{
+    if before.is_none() || before == owner {
+        return;
     }
+    let Some(place) = grants.len().checked_sub(1) else {
+        return;
+    };
+    grants[place].end = record.time.unwrap_or(LASTING);
+}
 
-    /// Returns the GRANTED at this place.
-    fn grant(&self, log: &Log, place: u32) -> Option<Record> {
-        log.record(self.numbers.get(place as usize).copied()?)
+/// Returns the grant of this record, behind these, to who owned the mutex before or to another.
+fn grant_of(grants: &[Grant], record: &Record, is_again: bool) -> Grant
+    ensures number { result.number ≡ record.now.number }
+    ensures latest { result.latest ≡ max (latest_of grants.now) (unwrap_or record.now.time 0) }
+{
+    let latest = match grants.last() {
+        Some(last) => last.latest,
+        None => 0,
+    };
+    let first = match grants.last() {
+        Some(last) if is_again => last.first,
+        _ => record.number,
+    };
+    Grant {
+        number: record.number,
+        latest: latest.max(record.time.unwrap_or(0)),
+        first,
+        end: LASTING,
     }
 }
 
-/// Turns how many each has into where each begins, and returns how many there are in all.
-fn begin_each(counts: &mut Vec<u32>) -> u32 {
-    let mut begin = 0u32;
-    for place in 0..counts.len() {
-        let count = counts[place];
-        counts[place] = begin;
-        begin = begin.saturating_add(count);
-    }
-    begin
+/// Returns the place of the first grant after this time, or how many there are.
+fn place_after(grants: &[Grant], time: u64) -> usize
+    ensures before { (bytes : List ℕ) (ids : Ids) (m number k : ℕ) → KnowsGrants bytes ids m number grants.now → k < result →
+        (at grants.now k).latest ≤ time }
+    ensures behind { (bytes : List ℕ) (ids : Ids) (m number k : ℕ) → KnowsGrants bytes ids m number grants.now → result ≤ k →
+        k < length grants.now → time < (at grants.now k).latest }
+{
+    grants.partition_point(|grant| grant.latest <= time)
 }
 
-/// Adds 1 at a place.
-fn count(list: &mut Vec<u32>, place: u32) {
-    let counted = get(list, place);
-    set(list, place, counted.saturating_add(1));
+/// Returns the number of the first grant after this time.
+fn next_after(grants: &[Grant], time: u64) -> Option<u64>
+    ensures { (bytes : List ℕ) (ids : Ids) (m number : ℕ) (grant : Record) → KnowsGrants bytes ids m number grants.now →
+        IsFirstAfter bytes ids m time grant → grant.number < number → result ≡ Some grant.number }
+{
+    match grants.get(place_after(grants, time)) {
+        Some(next) => Some(next.number),
+        None => None,
+    }
+}
+
+/// Returns the number of the first grant after the latest time at which the call of this record began, or of the one since
+/// which the mutex was owned then.
+fn next_or_owned(grants: &[Grant], record: &Record) -> Option<u64> {
+    let latest = record.time?.saturating_sub(LONGEST_CALL as u64);
+    let next = place_after(grants, latest);
+    if let Some(before) = next.checked_sub(1) {
+        let owned = grants.get(before)?;
+        if owned.end > latest {
+            return Some(owned.first);
+        }
+    }
+    let next = grants.get(next)?;
+    Some(next.number)
 }

@@ -14,7 +14,8 @@ ghost use Rattle.std.specs.Prelude.{List, None, OnOk, Some, length, slice_get, s
 ghost use Rattle.pim_log.specs.Headers.{end_of, header_of};
 ghost use Rattle.pim_log.specs.Logs.{IsLog};
 ghost use Rattle.pim_requests.specs.Asked.{HasWait, IsIn, IsOfWait, IsWaitOf};
-ghost use Rattle.pim_requests.specs.Searching.{AreOfWaits, IsNextFrom, IsPendingOf, KnowsOpen, KnowsPlaces};
+ghost use Rattle.pim_requests.specs.Granting.{HasEnded};
+ghost use Rattle.pim_requests.specs.Searching.{AreOfWaits, IsNextFrom, IsPendingOf, KnowsEnds, KnowsOpen, KnowsPlaces};
 
 use pim_course::{Course, Request, Sources, Walk};
 use pim_facts::Ids;
@@ -98,8 +99,10 @@ pub fn asked_in(
     sources: &Sources,
     waits: &[Wait],
 ) -> Result<Asked, AllocError>
-    ensures { IsLog log.now →
+    ensures shown { IsLog log.now →
         IfOk result (λ asked. All (IsOfWait log.now sources.now.ids waits.now) asked.list.items) }
+    ensures ends { IsLog log.now →
+        IfOk result (λ asked. All (HasEnded log.now sources.now.ids waits.now asked.list.items) asked.ends.items) }
 {
     if waits.is_empty() {
         return Ok(Asked::none(alloc));
@@ -128,7 +131,8 @@ pub fn asked_in(
 impl Asked {
     /// Returns no request.
     fn none(alloc: Global) -> Asked
-        ensures { result.list.items ≡ [] }
+        ensures list { result.list.items ≡ [] }
+        ensures ends { result.ends.items ≡ [] }
     {
         Asked {
             list: Vec::new(alloc),
@@ -140,6 +144,7 @@ impl Asked {
     fn set_place(&mut self, index: usize, place: Option<u16>)
         ensures waits { (ids : Ids) (waits : List Wait) → All (HasWait ids waits) self.old.list.items →
             All (HasWait ids waits) self.new.list.items }
+        ensures ends { self.new.ends ≡ self.old.ends }
         ensures others { (k : ℕ) → k ≢ index → slice_get self.new.list.items k ≡ slice_get self.old.list.items k }
         ensures place { (request : Request) → slice_get self.old.list.items index ≡ Some request →
             slice_get self.new.list.items index ≡ Some (record request { place = place }) }
@@ -298,17 +303,18 @@ impl Search {
         Ok(())
     }
 
-    /// Returns whether a request belongs before this number and behind its thread's last record, and the thread has no
-    /// other request since that record.
+    /// Returns whether a request belongs behind a record, before this number and behind its thread's last record, and the
+    /// thread has no other request since that record.
     fn is_open(&self, request: &Request, next: u64) -> bool
         ensures asked { IsTrue result → slice_index_or self.now.asked.items request.now.thread None ≡ None }
         ensures last { IsTrue result →
             IfSome (slice_index_or self.now.last.items request.now.thread None) (λ last. last ≤ request.now.after) }
         ensures next { IsTrue result → request.now.after < next }
+        ensures above { IsTrue result → 0 < request.now.after }
     {
         match get(&self.asked, request.thread) {
             Some(_) => false,
-            None => request.after < next && is_behind(request, &self.last),
+            None => 0 < request.after && request.after < next && is_behind(request, &self.last),
         }
     }
 
@@ -356,6 +362,10 @@ impl Search {
         ensures places { (bytes : List ℕ) → IsLog bytes → IsIn bytes record.now →
             KnowsOpen bytes record.now.number self.old.asked.items self.old.found.list.items →
             OnOk result (KnowsOpen bytes (record.now.number + 1) self.new.asked.items self.new.found.list.items) }
+        ensures ends { (bytes : List ℕ) →
+            KnowsOpen bytes record.now.number self.old.asked.items self.old.found.list.items → IsIn bytes record.now →
+            KnowsEnds bytes record.now.number self.old.found →
+            OnOk result (KnowsEnds bytes (record.now.number + 1) self.new.found) }
     {
         let Some(place) = get(&self.asked, record.thread) else {
             return Ok(());
@@ -459,9 +469,12 @@ impl Search {
 
     /// Adds the requests of the waits that last at the end, and returns all.
     fn end(self) -> Result<Asked, AllocError>
-        ensures { (bytes : List ℕ) (ids : Ids) (waits : List Wait) (number : ℕ) →
+        ensures shown { (bytes : List ℕ) (ids : Ids) (waits : List Wait) (number : ℕ) →
             end_of (header_of bytes) ≤ number → AreOfWaits ids waits self → KnowsPlaces bytes ids number self →
             IfOk result (λ asked. All (IsOfWait bytes ids waits) asked.list.items) }
+        ensures ends { (bytes : List ℕ) (ids : Ids) (waits : List Wait) (number : ℕ) →
+            end_of (header_of bytes) ≤ number → AreOfWaits ids waits self → KnowsPlaces bytes ids number self →
+            IfOk result (λ asked. All (HasEnded bytes ids waits asked.list.items) asked.ends.items) }
     {
         let Search {
             pending,

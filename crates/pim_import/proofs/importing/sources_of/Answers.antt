@@ -11,4 +11,5 @@ returns-clause-of_log c is =
       releases = c.in_ok-next_owners.ensures.releases covers names;
       asked = c.in_ok-next_owners.ensures.requests covers names;
       requests = c.in_ok-sources.ensures.shown is;
+      calls = c.in_ok-sources.ensures.calls is covers;
     }

@@ -1,8 +1,11 @@
-use Rattle.std.proofs.Common.{List}
-use Rattle.std.specs.Prelude.{All}
+use Rattle.std.proofs.Common.{◌≡◌, List, length}
+use Rattle.std.specs.Prelude.{All, Contains}
 use Rattle.pim_log.specs.Logs.{IsLog}
+use Rattle.pim_facts.specs.Covering.{Covers}
+use Rattle.pim_course.specs.declared.requests.Request.{Request}
 use Rattle.pim_requests.specs.Asked.{IsShown}
 use Rattle.pim_requests.specs.Asking.{KnowsAsked}
+use Rattle.pim_requests.specs.Granting.{HasEnded, HasThoseBefore, IsAsked, KnowsAll}
 use Rattle.pim_requests.specs.declared.waits.Wait.{Wait}
 use Rattle.pim_requests.proofs.requests.add_silent.Given as goal
 
@@ -12,4 +15,12 @@ invariant-loop-number l =
       knows : IsLog l.log → KnowsAsked l.log l.sources.ids l.number l.asked.items;
       shown : (waits : List Wait) → IsLog l.log → All (IsShown l.log l.sources.ids waits) l.fn.to.list.items →
           All (IsShown l.log l.sources.ids waits) l.to.list.items;
+      room : length l.asked.items ≡ length l.sources.ids.threads.items;
+      asked : IsLog l.log → IsAsked l.log l.sources.ids l.number l.asked.items;
+      grants : IsLog l.log → KnowsAll l.log l.sources.ids l.number l.grants;
+      kept : (request : Request) → Contains l.fn.to.list.items request → Contains l.to.list.items request;
+      ends : l.to.ends ≡ l.fn.to.ends;
+      calls : (waits : List Wait) → IsLog l.log → Covers l.sources.ids l.log →
+          All (HasEnded l.log l.sources.ids waits l.fn.to.list.items) l.fn.to.ends.items →
+          HasThoseBefore l.log l.sources.ids waits l.number l.to.list.items;
     }

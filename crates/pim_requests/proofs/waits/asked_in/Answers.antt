@@ -35,15 +35,29 @@ loop-number-preserved c =
           (c.in_ok-begin.ensures.places bytes (c.loop-number.invariant.places log))));
     }
 
-pub returns : goal.returns
-returns c = λ log.
+pub returns-clause-shown : goal.returns-clause-shown
+returns-clause-shown c = λ log.
     let bytes = c.args.log.now in
     let ids = c.args.sources.now.ids in
     let waits = c.args.waits.now in
     let same : c.end-end.result ≡ end_of (header_of bytes) = c.end-end.ensures ∙ ap end_of c.header.ensures in
     let high : end_of (header_of bytes) ≤ c.end-end.result = omega (arith, same) in
     let low : end_of (header_of bytes) ≤ c.loop-number.number = omega (arith, same, c.loop-number-test.false) in
-    c.end.ensures bytes ids waits c.end-end.result high
+    c.end.ensures.shown bytes ids waits c.end-end.result high
+    (c.in_ok-begin-2.ensures.waits waits c.loop-number.invariant.waits)
+    (c.in_ok-begin-2.ensures.places bytes
+    (places-end bytes ids c.loop-number.number c.end-end.result c.loop-number.search low high
+    (c.loop-number.invariant.places log)))
+
+pub returns-clause-ends : goal.returns-clause-ends
+returns-clause-ends c = λ log.
+    let bytes = c.args.log.now in
+    let ids = c.args.sources.now.ids in
+    let waits = c.args.waits.now in
+    let same : c.end-end.result ≡ end_of (header_of bytes) = c.end-end.ensures ∙ ap end_of c.header.ensures in
+    let high : end_of (header_of bytes) ≤ c.end-end.result = omega (arith, same) in
+    let low : end_of (header_of bytes) ≤ c.loop-number.number = omega (arith, same, c.loop-number-test.false) in
+    c.end.ensures.ends bytes ids waits c.end-end.result high
     (c.in_ok-begin-2.ensures.waits waits c.loop-number.invariant.waits)
     (c.in_ok-begin-2.ensures.places bytes
     (places-end bytes ids c.loop-number.number c.end-end.result c.loop-number.search low high

@@ -8,4 +8,4 @@ returns-clause-places c = λ bytes ids number lt place from knows.
     let at : c.len-place.result ≡ length c.args.self.now.found.list.items = omega arith in
     places-more bytes ids number c.args.next c.args.self.now _ c.args.request refl
     (c.set.ensures ∙ ap (λ k. set c.args.self.now.asked.items c.args.request.thread (Some k)) at)
-    c.in_ok-push.ensures.items (is.asked refl) (is.last refl) (is.next refl) lt place from knows
+    c.in_ok-push.ensures.items refl (is.above refl) (is.asked refl) (is.last refl) (is.next refl) lt place from knows

@@ -1,6 +1,8 @@
-use Rattle.std.proofs.Common.{None, get_or, refl, sym, ap, ◌∙◌}
+use Rattle.std.specs.Prelude.{Vec}
+use Rattle.std.specs.Global.{Global}
+use Rattle.std.proofs.Common.{ℕ, ◌∷◌, ◌++◌, [], None, get_or, refl, sym, ap, ◌∙◌}
 use Rattle.pim_course.proofs.NextOwning.{got}
-use Rattle.pim_requests.proofs.Placing.{known-none, known-placed}
+use Rattle.pim_requests.proofs.Placing.{ends-none, ends-placed, known-none, known-placed}
 use Rattle.pim_requests.proofs.waits.Search.end_wait.Goals as goal
 
 pub returns-in_default-clause-places : goal.returns-in_default-clause-places
@@ -20,3 +22,18 @@ returns-clause-places c = λ bytes log has known.
     (ap (λ l. get_or l r.thread None) (sym c.deref.ensures.value)
     ∙ sym (got c.deref.result.now r.thread c.get.result c.get.ensures) ∙ c.in-Some.is)
     c.set.ensures c.set_place.ensures.others c.set_place.ensures.place known
+
+pub returns-in_default-clause-ends : goal.returns-in_default-clause-ends
+returns-in_default-clause-ends c = λ bytes opened has known.
+    ends-none bytes c.args.record.now.number c.args.self.now.found known
+
+pub returns-clause-ends : goal.returns-clause-ends
+returns-clause-ends c = λ bytes opened has known.
+    let self = c.args.self.now in
+    let r = c.args.record.now in
+    ends-placed bytes r c.in-Some.place self.asked.items self.found
+    (record c.set_place.new.self { ends = c.push.new.self }) has
+    (ap (λ l. get_or l r.thread None) (sym c.deref.ensures.value)
+    ∙ sym (got c.deref.result.now r.thread c.get.result c.get.ensures) ∙ c.in-Some.is)
+    c.set_place.ensures.others c.set_place.ensures.place
+    (c.in_ok-push.ensures.items ∙ ap (λ (v : Vec ℕ Global). v.items ++ r.number ∷ []) c.set_place.ensures.ends) opened known

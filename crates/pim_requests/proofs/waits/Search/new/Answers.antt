@@ -16,7 +16,7 @@ returns-clause-waits c =
           (All-same (Contains waits) _ _ c.in_ok-sorted.ensures.items (All-contains_itself waits)),
       (
         All-same (IsPendingOf ids waits) _ _ c.new-3.ensures.items (All-nil (IsPendingOf ids waits)),
-        All-same (HasWait ids waits) _ _ c.none.ensures (All-nil (HasWait ids waits)),
+        All-same (HasWait ids waits) _ _ c.none.ensures.list (All-nil (HasWait ids waits)),
       ),
     )
 
@@ -25,4 +25,4 @@ returns-clause-places c = λ bytes.
     places-first bytes c.args.sources.now.ids _
     (grind (arith, common_steps, c.len-threads.ensures, c.in_ok-vec.ensures.items_if_clones_equal (search rules)))
     (grind (arith, common_steps, c.len-threads.ensures, c.in_ok-vec-3.ensures.items_if_clones_equal (search rules)))
-    c.none.ensures
+    c.none.ensures.list c.none.ensures.ends
