@@ -1,7 +1,8 @@
 -- What changes in a trace, at most, while a thread and a mutex take their numbers, and a fact is made.
-use Rattle.std.proofs.Common.{◌≡◌, ◌⊎◌, ◌∙◌, refl, sym, ap, subst, inl, inr, ℕ, List, Option, Some, None}
-use Rattle.std.proofs.Common.{Bool, true, false, cond, unwrap_or}
-use Rattle.std.proofs.lemmas.Option.{none-some, same_Some}
+use Rattle.std.proofs.Common.{◌≡◌, ◌≢◌, ◌≤◌, ◌⊎◌, ◌∙◌, refl, sym, ap, subst, inl, inr, arith, ℕ, List, Option, Some, None}
+use Rattle.std.proofs.Common.{Bool, true, false, cond, unwrap_or, IfSome}
+use Rattle.std.proofs.lemmas.Bool.{cases_eq, eq-eqb}
+use Rattle.std.proofs.lemmas.Option.{IfSome_then, none-some, same_Some}
 use Rattle.std.specs.Option.{option_and_then}
 use Rattle.pim_base.specs.Lists.{nth, put, holds}
 use Rattle.pim_base.proofs.Places.{nth-put_other}
@@ -9,16 +10,18 @@ use Rattle.pim_facts.specs.Shown.{mutex_of}
 use Rattle.pim_facts.specs.declared.fact.Fact.{Fact}
 use Rattle.pim_facts.specs.declared.fact.What.{What}
 use Rattle.pim_facts.specs.declared.fact.What.TheVariants as what
-use Rattle.pim_replay.specs.Replays.{Program, IsSame}
+use Rattle.pim_replay.specs.Replays.{Program, IsQueuedIfItMay, IsSame, ReplayState, awaits, observed}
+use Rattle.pim_replay.specs.Replays as replays
 use Rattle.pim_replay.specs.declared.observation.Observation.{Observation}
 use Rattle.pim_replay.specs.declared.observation.Observation.TheVariants as observation
 use Rattle.pim_replay.proofs.Replaying.{same_refl}
-use Rattle.pim_builder.specs.Showing.{IsSetting, held, holder_in, number_in}
+use Rattle.pim_builder.specs.Showing.{HoldsOf, IsSetting, JoinsQueueBy}
+use Rattle.pim_builder.specs.Views.{View, held, holder_in, mutex_in, number_in, task_in}
 use Rattle.pim_builder.specs.Frames.{BeginsAsMutex, BeginsAsTask, Changed, ChangesOnly, ChangesThose, KeepsOthers}
-use Rattle.pim_builder.specs.Frames.{MutexBegins, Nobody, OnlyClears, OnlyEntersMutex, OnlyEntersThread, OnlyLeaves, TaskBegins, View}
-use Rattle.pim_builder.specs.Frames.{ChangesBy, changed_by, changed_by_fact, mutex_in, owner_in, task_in}
+use Rattle.pim_builder.specs.Frames.{HasNothing, IsUnused, MutexBegins, Nobody, OnlyClears, OnlyFrees, OnlyEntersMutex, OnlyEntersThread, OnlyLeaves, TaskBegins}
+use Rattle.pim_builder.specs.Frames.{ChangesBy, changed_by, changed_by_fact}
 use Rattle.pim_builder.specs.declared.builder.Context.{Context}
-use Rattle.pim_builder.proofs.Framing.{only_on, only_weaker, same_only}
+use Rattle.pim_builder.proofs.Framing.{by_observation, frees_on, frees_refl, only_on, only_weaker, same_only}
 
 -- who holds a number has it
 held_is :
@@ -40,8 +43,31 @@ enters_no_thread context t v = record {
   threads = λ k h. refl;
   mutexes = refl;
   program = same_only (BeginsAsTask context v v t) (BeginsAsTask context v v t)
-      (λ n. (k : ℕ) × (owner_in v.program n ≡ Some k) × BeginsAsTask context v v t k) Nobody
+      (λ n. (k : ℕ) × (holder_in v.program.owner n ≡ Some k) × BeginsAsTask context v v t k) Nobody
       v.program v.program (same_refl v.program);
+  anew = λ k begins. absurd (none-some k (sym begins.0 ∙ begins.1));
+}
+
+-- a task that has nothing has nothing after a change of no wait and no owner
+nothing_on :
+    (k : ℕ) (base ceiling : Option ℕ) (p q : Program)
+    → ChangesThose (record { base = base; wait = None; owner = None; ceiling = ceiling }) p q
+    → HasNothing k p
+    → HasNothing k q
+nothing_on k base ceiling p q only nothing = record {
+  owns = λ n owns. nothing.owns n (sym (ap (λ o. unwrap_or o None) (only.owner n (λ e. none-some n e))) ∙ owns);
+  waits = only.wait k (λ e. none-some k e) ∙ nothing.waits;
+}
+
+-- and so of a mutex that is unused
+unused_on :
+    (n : ℕ) (base ceiling : Option ℕ) (p q : Program)
+    → ChangesThose (record { base = base; wait = None; owner = None; ceiling = ceiling }) p q
+    → IsUnused n p
+    → IsUnused n q
+unused_on n base ceiling p q only unused = record {
+  owner = ap (λ o. unwrap_or o None) (only.owner n (λ e. none-some n e)) ∙ unused.owner;
+  waits = λ k waits. unused.waits k (sym (ap replays.mutex_of (only.wait k (λ e. none-some k e))) ∙ waits);
 }
 
 pub enters_thread :
@@ -52,13 +78,14 @@ pub enters_thread :
     → late.threads ≡ put early.threads k (Some t)
     → late.mutexes ≡ early.mutexes
     → OnlyLeaves k early.program mid
+    → HasNothing k mid
     → ChangesThose (record { base = Some task; wait = None; owner = None; ceiling = None }) mid late.program
     → OnlyEntersThread context t early late
-enters_thread context t k task early late mid none number now threads mutexes left based =
+enters_thread context t k task early late mid none number now threads mutexes left nothing based =
     let Begins : ℕ → Type 0 = BeginsAsTask context early late t in
     let same : k ≡ task = held_is late.threads t (number_in context.numbering.now.threads t) k task number now in
     let begins : Begins k = (none, now ∙ ap Some (sym same)) in
-    let Owned : ℕ → Type 0 = λ n. (j : ℕ) × (owner_in early.program n ≡ Some j) × Begins j in
+    let Owned : ℕ → Type 0 = λ n. (j : ℕ) × (holder_in early.program.owner n ≡ Some j) × Begins j in
     record {
       threads = λ j h.
           ap (λ xs. nth xs j) threads ∙ nth-put_other early.threads k j (Some t) (λ is. h (subst Begins is begins));
@@ -67,12 +94,15 @@ enters_thread context t k task early late mid none number now threads mutexes le
           only_on Begins Begins Owned Nobody
           (λ j. Some task ≡ Some j) (λ j. None ≡ Some j) (λ j. None ≡ Some j) (λ j. None ≡ Some j)
           early.program mid late.program
-          (only_weaker Nobody (λ j. k ≡ j) (λ n. owner_in early.program n ≡ Some k) Nobody Begins Begins Owned Nobody
+          (only_weaker Nobody (λ j. k ≡ j) (λ n. holder_in early.program.owner n ≡ Some k) Nobody Begins Begins Owned Nobody
           early.program mid left
           (λ j none. absurd none) (λ j is. subst Begins is begins) (λ n owns. (k, owns, begins)) (λ n none. none))
           based
           (λ j h e. h (subst Begins (same ∙ same_Some task j e) begins)) (λ j h is e. none-some j e)
           (λ n h is e. none-some n e) (λ n h e. none-some n e);
+      anew = λ j here.
+          subst (λ i. HasNothing i late.program) (same ∙ same_Some task j (sym now ∙ here.1))
+          (nothing_on k (Some task) None mid late.program based nothing);
     }
 
 -- ---- a mutex
@@ -81,8 +111,10 @@ pub enters_no_mutex : (context : Context) (m : ℕ) (v : View) → OnlyEntersMut
 enters_no_mutex context m v = record {
   mutexes = λ n h. refl;
   threads = refl;
-  program = same_only Nobody (λ k. (n : ℕ) × (v.program.awaits k ≡ Some n) × BeginsAsMutex context v v m n)
+  program = same_only Nobody (λ k. (n : ℕ) × (awaits v.program k ≡ Some n) × BeginsAsMutex context v v m n)
       (BeginsAsMutex context v v m) (BeginsAsMutex context v v m) v.program v.program (same_refl v.program);
+  anew = λ n begins. absurd (none-some n (sym begins.0 ∙ begins.1));
+  frees = frees_refl v.program;
 }
 
 pub enters_mutex :
@@ -93,13 +125,15 @@ pub enters_mutex :
     → late.mutexes ≡ put early.mutexes n (Some m)
     → late.threads ≡ early.threads
     → OnlyClears n early.program mid
+    → IsUnused n mid
+    → OnlyFrees early.program mid
     → ChangesThose (record { base = None; wait = None; owner = None; ceiling = Some number }) mid late.program
     → OnlyEntersMutex context m early late
-enters_mutex context m n number early late mid none numbered now mutexes threads cleared set =
+enters_mutex context m n number early late mid none numbered now mutexes threads cleared unused freed set =
     let Begins : ℕ → Type 0 = BeginsAsMutex context early late m in
     let same : n ≡ number = held_is late.mutexes m (number_in context.numbering.now.mutexes m) n number numbered now in
     let begins : Begins n = (none, now ∙ ap Some (sym same)) in
-    let Waits : ℕ → Type 0 = λ k. (j : ℕ) × (early.program.awaits k ≡ Some j) × Begins j in
+    let Waits : ℕ → Type 0 = λ k. (j : ℕ) × (awaits early.program k ≡ Some j) × Begins j in
     record {
       mutexes = λ j h.
           ap (λ xs. nth xs j) mutexes ∙ nth-put_other early.mutexes n j (Some m) (λ is. h (subst Begins is begins));
@@ -108,12 +142,19 @@ enters_mutex context m n number early late mid none numbered now mutexes threads
           only_on Nobody Waits Begins Begins
           (λ j. None ≡ Some j) (λ j. None ≡ Some j) (λ j. None ≡ Some j) (λ j. Some number ≡ Some j)
           early.program mid late.program
-          (only_weaker Nobody (λ k. early.program.awaits k ≡ Some n) (λ j. n ≡ j) Nobody Nobody Waits Begins Begins
+          (only_weaker Nobody (λ k. awaits early.program k ≡ Some n) (λ j. n ≡ j) Nobody Nobody Waits Begins Begins
           early.program mid cleared
           (λ k none. none) (λ k waits. (n, waits, begins)) (λ j is. subst Begins is begins) (λ j none. absurd none))
           set
           (λ k h e. none-some k e) (λ k h is e. none-some k e)
           (λ j h is e. none-some j e) (λ j h e. h (subst Begins (same ∙ same_Some number j e) begins));
+      anew = λ j here.
+          subst (λ i. IsUnused i late.program) (same ∙ same_Some number j (sym now ∙ here.1))
+          (unused_on n None (Some number) mid late.program set unused);
+      frees = frees_on early.program mid late.program freed (record {
+        owners = λ j. inl (set.owner j (λ e. none-some j e));
+        waits = λ k. inl (set.wait k (λ e. none-some k e));
+      });
     }
 
 -- ---- a fact
@@ -125,6 +166,34 @@ pub record AreOf (context : Context) (view : View) (logged numbered : Changed) :
   pub owner : option_and_then (mutex_in context view) logged.owner ≡ numbered.owner
   pub ceiling : option_and_then (mutex_in context view) logged.ceiling ≡ numbered.ceiling
 
+-- a wait that the fact begins is behind all before it
+abbrev pub IsLatest : Context → Fact → Program → View → Type 0
+IsLatest context fact before late =
+    (m : ℕ) → fact.what ≡ what.Waits m →
+    HoldsOf (λ k. IfSome (late.program.waits k) (λ w. before.next ≤ w.ticket)) (task_in context late fact.thread)
+
+latest_from :
+    (context : Context) (fact : Fact) (p q : Program) (late : View)
+    → p.next ≤ q.next
+    → IsLatest context fact q late
+    → IsLatest context fact p late
+latest_from context fact p q late below latest m is = go (task_in context late fact.thread) (latest m is)
+  where
+    go :
+        (o : Option ℕ)
+        → HoldsOf (λ k. IfSome (late.program.waits k) (λ w. q.next ≤ w.ticket)) o
+        → HoldsOf (λ k. IfSome (late.program.waits k) (λ w. p.next ≤ w.ticket)) o
+    go None none = none
+    go (Some k) here =
+        IfSome_then (late.program.waits k) here (λ w above. omega (arith, below, above))
+
+is_some_or : (o : Option ℕ) (n : ℕ) → (o ≡ Some n) ⊎ (o ≢ Some n)
+is_some_or None n = inr (λ e. none-some n e)
+is_some_or (Some m) n = elim (cases_eq m n) [
+  | inl is ↦ inl (ap Some is)
+  | inr ne ↦ inr (λ e. ne (same_Some m n e))
+]
+
 -- its thread and its mutex take their numbers, and then it changes what it does
 pub acts_only :
     (context : Context) (fact : Fact) (m : ℕ) (a b c : View) (q : Program) (numbered : Changed)
@@ -134,8 +203,31 @@ pub acts_only :
     → OnlyEntersMutex context m b c
     → AreOf context c (changed_by_fact fact.what fact.thread) numbered
     → ChangesThose numbered c.program q
+    → IsLatest context fact c.program (record c { program = q })
     → KeepsOthers context fact a (record c { program = q })
-acts_only context fact m a b c q numbered its acts first second are last = record {
+acts_only context fact m a b c q numbered its acts first second are last latest = record {
+  latest = latest_from context fact a.program c.program (record c { program = q })
+      (omega (arith, first.program.next, second.program.next)) latest;
+  anew = record {
+    owns = λ k n begins holds. elim (is_some_or numbered.owner n) [
+      | inl is ↦ are.owner ∙ is
+      | inr other ↦
+          absurd ((nothing k begins).owns n (sym (ap (λ o. unwrap_or o None) (last.owner n other)) ∙ holds))
+    ];
+    waits = λ k begins. elim (is_some_or numbered.wait k) [
+      | inl is ↦ inl (are.wait ∙ is)
+      | inr other ↦ inr (last.wait k other ∙ (nothing k begins).waits)
+    ];
+    owner = λ n begins. elim (is_some_or numbered.owner n) [
+      | inl is ↦ inl (are.owner ∙ is)
+      | inr other ↦ inr (ap (λ o. unwrap_or o None) (last.owner n other) ∙ (unused n begins).owner)
+    ];
+    waiters = λ n k begins waits. elim (is_some_or numbered.wait k) [
+      | inl is ↦ are.wait ∙ is
+      | inr other ↦
+          absurd ((unused n begins).waits k (sym (ap replays.mutex_of (last.wait k other)) ∙ waits))
+    ];
+  };
   threads = λ j h. ap (λ xs. nth xs j) second.threads ∙ first.threads j (λ begins. h (task_begins j begins));
   mutexes = λ j h. second.mutexes j (λ begins. h (mutex_begins j begins)) ∙ ap (λ xs. nth xs j) first.mutexes;
   program =
@@ -144,11 +236,11 @@ acts_only context fact m a b c q numbered its acts first second are last = recor
       (λ n. numbered.ceiling ≡ Some n)
       a.program c.program q
       (only_on Bases Waits Owners Protocols
-      Nobody (λ k. (n : ℕ) × (b.program.awaits k ≡ Some n) × BeginsAsMutex context b c m n)
+      Nobody (λ k. (n : ℕ) × (awaits b.program k ≡ Some n) × BeginsAsMutex context b c m n)
       (BeginsAsMutex context b c m) (BeginsAsMutex context b c m)
       a.program b.program c.program entered second.program
       (λ k h none. none)
-      (λ k h same waits. h (inr (inr (waits.0, sym same ∙ waits.1, mutex_begins waits.0 waits.2))))
+      (λ k h same waits. h (inr (inr (waits.0, sym (ap replays.mutex_of same) ∙ waits.1, mutex_begins waits.0 waits.2))))
       (λ n h same begins. h (inr (inl (mutex_begins n begins))))
       (λ n h begins. h (inr (mutex_begins n begins))))
       last
@@ -162,16 +254,44 @@ acts_only context fact m a b c q numbered its acts first second are last = recor
     logged : Changed
     logged = changed_by_fact fact.what fact.thread
 
+    -- the task has nothing before the fact
+    nothing : (k : ℕ) → TaskBegins context fact a d k → HasNothing k c.program
+    nothing k begins =
+        let had = first.anew k (
+          begins.1.0,
+          ap (λ xs. held xs fact.thread (number_in context.numbering.now.threads fact.thread)) (sym second.threads)
+              ∙ begins.1.1,
+        ) in
+        record {
+          owns = λ n owns. elim (second.frees.owners n) [
+            | inl same ↦ had.owns n (sym (ap (λ o. unwrap_or o None) same) ∙ owns)
+            | inr none ↦ none-some k (sym none ∙ owns)
+          ];
+          waits = elim (second.frees.waits k) [
+            | inl same ↦ same ∙ had.waits
+            | inr none ↦ none
+          ];
+        }
+
+    -- the mutex is unused before it
+    unused : (n : ℕ) → MutexBegins context fact a d n → IsUnused n c.program
+    unused n begins =
+        let here = subst (λ l. BeginsAsMutex context a d l n) (same_Some begins.1 m (sym begins.2 ∙ its)) begins.3 in
+        second.anew n (
+          ap (λ xs. held xs m (number_in context.numbering.now.mutexes m)) first.mutexes ∙ here.0,
+          here.1,
+        )
+
     Bases : ℕ → Type 0
     Bases k = (option_and_then (task_in context d) logged.base ≡ Some k) ⊎ TaskBegins context fact a d k
 
     Waits : ℕ → Type 0
     Waits k = (option_and_then (task_in context d) logged.wait ≡ Some k) ⊎ (TaskBegins context fact a d k
-        ⊎ ((n : ℕ) × (a.program.awaits k ≡ Some n) × MutexBegins context fact a d n))
+        ⊎ ((n : ℕ) × (awaits a.program k ≡ Some n) × MutexBegins context fact a d n))
 
     Owners : ℕ → Type 0
     Owners n = (option_and_then (mutex_in context d) logged.owner ≡ Some n) ⊎ (MutexBegins context fact a d n
-        ⊎ ((k : ℕ) × (owner_in a.program n ≡ Some k) × TaskBegins context fact a d k))
+        ⊎ ((k : ℕ) × (holder_in a.program.owner n ≡ Some k) × TaskBegins context fact a d k))
 
     Protocols : ℕ → Type 0
     Protocols n = (option_and_then (mutex_in context d) logged.ceiling ≡ Some n) ⊎ MutexBegins context fact a d n
@@ -196,7 +316,7 @@ acts_only context fact m a b c q numbered its acts first second are last = recor
     entered : ChangesOnly Bases Waits Owners Protocols a.program b.program
     entered =
         only_weaker (BeginsAsTask context a b fact.thread) (BeginsAsTask context a b fact.thread)
-        (λ n. (k : ℕ) × (owner_in a.program n ≡ Some k) × BeginsAsTask context a b fact.thread k) Nobody
+        (λ n. (k : ℕ) × (holder_in a.program.owner n ≡ Some k) × BeginsAsTask context a b fact.thread k) Nobody
         Bases Waits Owners Protocols a.program b.program first.program
         (λ k begins. inr (task_begins k begins)) (λ k begins. inr (inl (task_begins k begins)))
         (λ n owns. inr (inr (owns.0, owns.1, task_begins owns.0 owns.2))) (λ n none. absurd none)
@@ -216,34 +336,56 @@ module _ (context : Context) (fact : Fact) (m k n : ℕ) (a b c : View) (q : Pro
       → fact.what ≡ w
       → AreOf context c (changed_by_fact w fact.thread) (changed_by o)
       → ChangesBy o c.program q
+      → IsLatest context fact c.program (record c { program = q })
       → KeepsOthers context fact a (record c { program = q })
-  acts_as w o is are last =
+  acts_as w o is are last latest =
       acts_only context fact m a b c q (changed_by o) its acts first second
-      (subst (λ w. AreOf context c (changed_by_fact w fact.thread) (changed_by o)) (sym is) are) last
+      (subst (λ w. AreOf context c (changed_by_fact w fact.thread) (changed_by o)) (sym is) are) last latest
+
+  -- a fact that begins no wait
+  none_latest : (w : What) → fact.what ≡ w → ((l : ℕ) → w ≢ what.Waits l) → IsLatest context fact c.program (record c { program = q })
+  none_latest w is other l waits = absurd (other l (sym is ∙ waits))
 
   pub grants_only :
       (l : ℕ)
       → fact.what ≡ what.Granted l
       → ChangesBy (observation.Granted k n) c.program q
       → KeepsOthers context fact a (record c { program = q })
-  grants_only l is = acts_as (what.Granted l) (observation.Granted k n) is
-      (record { base = refl; wait = here; owner = there (what.Granted l) l is refl; ceiling = refl })
+  grants_only l is last = acts_as (what.Granted l) (observation.Granted k n) is
+      (record { base = refl; wait = here; owner = there (what.Granted l) l is refl; ceiling = refl }) last
+      (none_latest (what.Granted l) is (λ l e. absurd (cc e)))
 
   pub waits_only :
       (l : ℕ)
       → fact.what ≡ what.Waits l
-      → ChangesBy (observation.Waits k n) c.program q
+      → IsSame (observed c.program (observation.Waits k n)) q
       → KeepsOthers context fact a (record c { program = q })
-  waits_only l is = acts_as (what.Waits l) (observation.Waits k n) is
+  waits_only l is same = acts_as (what.Waits l) (observation.Waits k n) is
       (record { base = refl; wait = here; owner = refl; ceiling = refl })
+      (by_observation c.program q (observation.Waits k n) same)
+      (λ l e. subst (HoldsOf (λ j. IfSome (q.waits j) (λ w. c.program.next ≤ w.ticket))) (sym here)
+      (subst (λ o. IfSome o (λ w. c.program.next ≤ w.ticket)) (sym begun) (omega arith)))
+    where
+      begun : q.waits k ≡ Some (record { mutex = n; ticket = c.program.next })
+      begun = same.waits k ∙ ap (λ y. cond y (Some (record { mutex = n; ticket = c.program.next })) (c.program.waits k)) (eq-eqb k k refl)
+
+  -- whoever begins to wait is in the queue, if it may
+  pub waits_joined :
+      (r : ReplayState)
+      → IsQueuedIfItMay r k n
+      → JoinsQueueBy r (task_in context c) (mutex_in context c) fact.what fact.thread
+  waits_joined r joined l e =
+      subst (HoldsOf (λ i. HoldsOf (IsQueuedIfItMay r i) (mutex_in context c l))) (sym here)
+      (subst (HoldsOf (IsQueuedIfItMay r k)) (sym (there (what.Waits l) l e refl)) joined)
 
   pub gives_up_only :
       (l : ℕ)
       → fact.what ≡ what.GaveUp l
       → ChangesBy (observation.GaveUp k) c.program q
       → KeepsOthers context fact a (record c { program = q })
-  gives_up_only l is = acts_as (what.GaveUp l) (observation.GaveUp k) is
-      (record { base = refl; wait = here; owner = refl; ceiling = refl })
+  gives_up_only l is last = acts_as (what.GaveUp l) (observation.GaveUp k) is
+      (record { base = refl; wait = here; owner = refl; ceiling = refl }) last
+      (none_latest (what.GaveUp l) is (λ l e. absurd (cc e)))
 
   pub releases_only :
       (l : ℕ) (next found : Option ℕ)
@@ -251,22 +393,33 @@ module _ (context : Context) (fact : Fact) (m k n : ℕ) (a b c : View) (q : Pro
       → found ≡ option_and_then (task_in context c) next
       → ChangesBy (observation.Released k n found) c.program q
       → KeepsOthers context fact a (record c { program = q })
-  releases_only l next found is looked = acts_as (what.Released l next) (observation.Released k n found) is
-      (record { base = refl; wait = sym looked; owner = there (what.Released l next) l is refl; ceiling = refl })
+  releases_only l next found is looked last = acts_as (what.Released l next) (observation.Released k n found) is
+      (record { base = refl; wait = sym looked; owner = there (what.Released l next) l is refl; ceiling = refl }) last
+      (none_latest (what.Released l next) is (λ l e. absurd (cc e)))
 
 -- it changes what it does, and nobody takes a number
 pub sets_only :
     (context : Context) (fact : Fact) (a : View) (p q : Program) (numbered : Changed)
+    → ((l : ℕ) → fact.what ≢ what.Waits l)
+    → IsSetting fact.what
     → AreOf context a (changed_by_fact fact.what fact.thread) numbered
     → IsSame a.program p
     → ChangesThose numbered p q
     → KeepsOthers context fact a (record a { program = q })
-sets_only context fact a p q numbered are same only = record {
+sets_only context fact a p q numbered other setting are same only = record {
+  anew = record {
+    owns = λ k n begins. absurd (begins.0 setting);
+    waits = λ k begins. absurd (begins.0 setting);
+    owner = λ n begins. absurd (begins.0 setting);
+    waiters = λ n k begins. absurd (begins.0 setting);
+  };
+  latest = λ l waits. absurd (other l waits);
   threads = λ j h. refl;
   mutexes = λ j h. refl;
   program = record {
     base = λ k h. only.base k (λ e. h (inl (are.base ∙ e))) ∙ ap (λ (xs : List ℕ). nth xs k) same.base;
-    wait = λ k h. only.wait k (λ e. h (inl (are.wait ∙ e))) ∙ same.awaits k;
+    wait = λ k h. only.wait k (λ e. h (inl (are.wait ∙ e))) ∙ same.waits k;
+    next = omega (arith, same.next, only.next);
     owner = λ n h. only.owner n (λ e. h (inl (are.owner ∙ e))) ∙ ap (λ (xs : List (Option ℕ)). nth xs n) same.owner;
     protocol = λ n h. only.protocol n (λ e. h (inl (are.ceiling ∙ e))) ∙ ap (λ xs. nth xs n) same.protocol;
   };
@@ -279,11 +432,19 @@ pub keeps_from :
     → KeepsOthers context fact (record a { program = p }) d
     → KeepsOthers context fact a d
 keeps_from context fact a d p same keeps = record {
+  anew = record {
+    owns = keeps.anew.owns;
+    waits = keeps.anew.waits;
+    owner = keeps.anew.owner;
+    waiters = keeps.anew.waiters;
+  };
+  latest = latest_from context fact a.program p d (omega (arith, same.next)) keeps.latest;
   threads = λ j h. keeps.threads j h;
   mutexes = λ j h. keeps.mutexes j h;
   program = record {
     base = λ k h. keeps.program.base k h ∙ ap (λ (xs : List ℕ). nth xs k) same.base;
-    wait = λ k h. keeps.program.wait k (λ w. h (waits k w)) ∙ same.awaits k;
+    wait = λ k h. keeps.program.wait k (λ w. h (waits k w)) ∙ same.waits k;
+    next = omega (arith, same.next, keeps.program.next);
     owner = λ n h. keeps.program.owner n (λ w. h (owns n w)) ∙ ap (λ (xs : List (Option ℕ)). nth xs n) same.owner;
     protocol = λ n h. keeps.program.protocol n h ∙ ap (λ xs. nth xs n) same.protocol;
   };
@@ -294,16 +455,16 @@ keeps_from context fact a d p same keeps = record {
 
     waits :
         {A B : Type 0} (k : ℕ)
-        → A ⊎ (B ⊎ ((n : ℕ) × (p.awaits k ≡ Some n) × MutexBegins context fact b d n))
-        → A ⊎ (B ⊎ ((n : ℕ) × (a.program.awaits k ≡ Some n) × MutexBegins context fact a d n))
+        → A ⊎ (B ⊎ ((n : ℕ) × (awaits p k ≡ Some n) × MutexBegins context fact b d n))
+        → A ⊎ (B ⊎ ((n : ℕ) × (awaits a.program k ≡ Some n) × MutexBegins context fact a d n))
     waits k (inl e) = inl e
     waits k (inr (inl e)) = inr (inl e)
-    waits k (inr (inr e)) = inr (inr (e.0, sym (same.awaits k) ∙ e.1, e.2))
+    waits k (inr (inr e)) = inr (inr (e.0, sym (ap replays.mutex_of (same.waits k)) ∙ e.1, e.2))
 
     owns :
         {A B : Type 0} (n : ℕ)
-        → A ⊎ (B ⊎ ((k : ℕ) × (owner_in p n ≡ Some k) × TaskBegins context fact b d k))
-        → A ⊎ (B ⊎ ((k : ℕ) × (owner_in a.program n ≡ Some k) × TaskBegins context fact a d k))
+        → A ⊎ (B ⊎ ((k : ℕ) × (holder_in p.owner n ≡ Some k) × TaskBegins context fact b d k))
+        → A ⊎ (B ⊎ ((k : ℕ) × (holder_in a.program.owner n ≡ Some k) × TaskBegins context fact a d k))
     owns n (inl e) = inl e
     owns n (inr (inl e)) = inr (inl e)
     owns n (inr (inr e)) =
@@ -319,7 +480,7 @@ pub level_only :
     → KeepsOthers context fact a (record a { program = q })
 level_only context fact a p q level task is looked =
     let c : Changed = record { base = task; wait = None; owner = None; ceiling = None } in
-    sets_only context fact a p q c
+    sets_only context fact a p q c (λ l e. absurd (cc (sym is ∙ e))) (subst IsSetting (sym is) tt)
     (subst (λ w. AreOf context a (changed_by_fact w fact.thread) c) (sym is)
     (record { base = sym looked; wait = refl; owner = refl; ceiling = refl }))
 
@@ -332,7 +493,7 @@ pub ceiling_only :
     → KeepsOthers context fact a (record a { program = q })
 ceiling_only context fact a p q m level number is looked =
     let c : Changed = record { base = None; wait = None; owner = None; ceiling = number } in
-    sets_only context fact a p q c
+    sets_only context fact a p q c (λ l e. absurd (cc (sym is ∙ e))) (subst IsSetting (sym is) tt)
     (subst (λ w. AreOf context a (changed_by_fact w fact.thread) c) (sym is)
     (record { base = refl; wait = refl; owner = refl; ceiling = sym looked }))
 

@@ -7,10 +7,12 @@ use Rattle.pim_base.specs.Lists.{put}
 use Rattle.pim_facts.specs.declared.fact.Fact.{Fact}
 use Rattle.pim_replay.specs.Priorities.{priority_of}
 use Rattle.pim_replay.specs.declared.piece.Piece.{Piece}
-use Rattle.pim_replay.specs.Replays.{ReplayState}
-use Rattle.pim_builder.specs.Frames.{KeepsOthers, program_at, view_of}
+use Rattle.pim_replay.specs.Replays.{IsInOrder, ReplayState}
+use Rattle.pim_builder.specs.Frames.{KeepsOthers}
+use Rattle.pim_builder.specs.Views.{program_at, view_of}
 use Rattle.pim_builder.specs.Pieces.{Point, GoesOn, EndWith, HasTimes, steps_of}
-use Rattle.pim_builder.specs.Showing.{number_in, held, ShowsWhat, SetsNone, Shows, task_now, mutex_now}
+use Rattle.pim_builder.specs.Showing.{Joins, JoinsQueueBy, ShowsWhat, SetsNone, Shows}
+use Rattle.pim_builder.specs.Views.{number_in, held, task_now, mutex_now}
 use Rattle.pim_builder.specs.Shown.{as_thread, as_mutex, given_to, taken_by, holders_after, nobody, threads_after}
 use Rattle.pim_builder.specs.Shown.{mutexes_after, Dated, Stage, AppearsBetween, LeadsTo}
 use Rattle.pim_builder.specs.Shown.{IsShownAt, AreShownBy, AreShownIn, stage_of, view_at, HasHolders, AreShown, Extends}
@@ -64,9 +66,6 @@ extends_trans context time a b c e f = record {
   leads = leads_trans time (stage_of a) (stage_of b) (stage_of c) e.leads f.leads;
   holders = λ h. f.holders (e.holders h);
 }
-
-pub extends_refl : (context : Context) (time : ℕ) (a : TraceBuilder) → Extends context time a a
-extends_refl context time a = record { leads = leads_refl time (stage_of a); holders = λ h. h }
 
 -- further steps, and nobody appears
 pub extends_steps :
@@ -222,6 +221,11 @@ timed_by : (context : Context) (facts : List Dated) (now : Stage) → AreShownBy
 timed_by context [] now begin = ap (λ ts. length ts) begin.times ∙ sym (ap (λ es. length es) begin.steps)
 timed_by context (latest ∷ facts) now shown = shown.3
 
+-- and queues are in order
+ordered_by : (context : Context) (facts : List Dated) (now : Stage) → AreShownBy context facts now → IsInOrder now.point.piece.replay
+ordered_by context [] now begin = begin.order
+ordered_by context (latest ∷ facts) now shown = shown.6
+
 -- who has the numbers is who appeared last with them
 view_by : (context : Context) (b : TraceBuilder) → HasHolders context b → view_of b ≡ view_at context (stage_of b)
 view_by context b h = ap₂ (λ ts ms. record { threads = ts; mutexes = ms; program = program_at b.pieces }) h.threads h.mutexes
@@ -233,10 +237,11 @@ pub shown_more :
     → (IsTrue is_used → Shows context b fact)
     → (is_used ≡ false → SetsNone (task_now context b) (mutex_now context b) fact.what fact.thread)
     → KeepsOthers context fact (view_of a) (view_of b)
+    → Joins context b fact
     → (facts : List Dated)
     → AreShown context facts a
     → AreShown context (record { fact = fact; time = time } ∷ facts) b
-shown_more context fact time a b is_used extends shows unset keeps facts shown =
+shown_more context fact time a b is_used extends shows unset keeps joins facts shown =
     record {
       holders = extends.holders shown.holders;
       shown = (
@@ -247,6 +252,10 @@ shown_more context fact time a b is_used extends shows unset keeps facts shown =
         is_shown is_used shows unset,
         subst (λ v. KeepsOthers context fact v (view_at context (stage_of b))) (view_by context a shown.holders)
             (subst (KeepsOthers context fact (view_of a)) (view_by context b (extends.holders shown.holders)) keeps),
+        extends.leads.point.order (ordered_by context facts (stage_of a) shown.shown),
+        by_holders context b (extends.holders shown.holders) (λ ts ms.
+            JoinsQueueBy b.pieces.piece.replay (λ t. held ts t (number_in context.numbering.now.threads t))
+            (λ m. held ms m (number_in context.numbering.now.mutexes m)) fact.what fact.thread) joins,
       );
     }
   where
@@ -267,11 +276,12 @@ pub shown_at_begin :
     (context : Context) (b : TraceBuilder) (replay : ReplayState)
     → b.pieces ≡ record { before = []; piece = record { replay = replay; times = []; restoring = 0 } }
     → replay.entries ≡ []
+    → IsInOrder replay
     → b.appearances.items ≡ []
     → b.threads.items ≡ nobody context.numbering.now.threads
     → b.mutexes.items ≡ nobody context.numbering.now.mutexes
     → AreShown context [] b
-shown_at_begin context b replay begin steps none threads mutexes = record {
+shown_at_begin context b replay begin steps order none threads mutexes = record {
   holders = record {
     threads = threads ∙ sym (ap (threads_after context) none);
     mutexes = mutexes ∙ sym (ap (mutexes_after context) none);
@@ -279,6 +289,7 @@ shown_at_begin context b replay begin steps none threads mutexes = record {
   shown = record {
     before = ap (λ (p : Point). p.before) begin;
     steps = ap (λ (p : Point). p.piece.replay.entries) begin ∙ steps;
+    order = subst (λ (p : Point). IsInOrder p.piece.replay) (sym begin) order;
     times = ap (λ (p : Point). p.piece.times) begin;
     appeared = none;
   };

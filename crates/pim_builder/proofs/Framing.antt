@@ -1,30 +1,20 @@
 -- What changes in a program, at most, by what is made of it.
-use Rattle.std.proofs.Common.{◌≡◌, ◌≢◌, ◌∙◌, refl, sym, ap, subst, inl, inr, ℕ, ◌≤◌, List, [], ◌∷◌, ◌++◌, All, Option}
-use Rattle.std.proofs.Common.{Some, None, Bool, true, false, cond, eqb, map, unwrap_or, Contains, get_or, take}
-use Rattle.std.proofs.Common.{length, ◌+◌, ◌<◌}
-use lib.Seq.{take_all}
-use Rattle.std.proofs.lemmas.Bool.{cases_eq, eq-eqb, ne_eqb}
-use Rattle.std.proofs.lemmas.List.Elements.{All-head, All-tail}
-use Rattle.std.proofs.lemmas.List.{map-append, take_more}
+use Rattle.std.proofs.Common.{◌≡◌, ◌≢◌, ◌≤◌, ◌<◌, ◌+◌, ◌∙◌, refl, sym, ap, subst, inl, inr, arith, ℕ, zero, suc, List}
+use Rattle.std.proofs.Common.{Option, Some, None, Bool, true, false, cond, eqb, unwrap_or, length}
+use Rattle.std.proofs.lemmas.Bool.{cases_eq, cases_lt, eq-eqb, ne_eqb}
 use Rattle.std.proofs.lemmas.Option.{none-some, same_Some}
 use Rattle.pim_base.specs.Lists.{nth, put, holds}
-use Rattle.pim_base.proofs.Places.{nth-put_same, nth-put_other, nth_within}
-use Rattle.std.specs.Option.{option_or}
-use Rattle.pim_base.specs.Checks.{unknown_mutex}
-use Rattle.pim_base.specs.Queues.{queue_of}
-use Rattle.pim_replay.specs.Replays.{Program, IsSame, ReplayState, awaited, mutex_of, observed, outside_of, given}
-use Rattle.pim_replay.specs.Replays.{waiting_for, with_wait_for}
-use Rattle.pim_base.specs.State.{State}
-use Rattle.pim_base.specs.Steady.{IsSteady}
-use Rattle.pim_manager.specs.Known.{of_mutex}
-use Rattle.pim_replay.proofs.Ordering.{among_waits}
-use Rattle.pim_base.specs.declared.steps.Protocol.{Protocol}
-use Rattle.pim_base.specs.declared.steps.Waiter.{Waiter}
+use Rattle.pim_base.specs.declared.steps.Wait.{Wait}
+use Rattle.pim_base.proofs.NoCycle.{unwrap_or-put_same}
+use Rattle.pim_base.proofs.Places.{length-put, nth-put_same, nth-put_other, nth_within}
+use Rattle.pim_replay.specs.Replays.{Program, ReplayState, IsSame, awaits, mutex_of, observed, given, program_of, with_wait}
 use Rattle.pim_replay.specs.declared.observation.Observation.{Observation}
 use Rattle.pim_replay.specs.declared.observation.Observation.TheVariants.{Granted, Waits, GaveUp, Released, Base, Ceiling}
-use Rattle.pim_replay.proofs.Replaying.{same_refl, same_trans, same_given}
-use Rattle.pim_builder.specs.Frames.{ChangesOnly, ChangesThose, ChangesBy, Changed, Nobody, OnlyClears, OnlyLeaves}
-use Rattle.pim_builder.specs.Frames.{all_observed, changed_by, owner_in}
+use Rattle.pim_replay.proofs.Comparing.{nth-past}
+use Rattle.pim_replay.proofs.Replaying.{same_refl}
+use Rattle.pim_builder.specs.Frames.{ChangesOnly, ChangesThose, ChangesBy, Changed, IsUnused, Nobody, OnlyClears, OnlyFrees}
+use Rattle.pim_builder.specs.Frames.{OnlyLeaves, changed_by}
+use Rattle.pim_builder.specs.Views.{holder_in}
 
 -- ---- from program to program
 
@@ -33,13 +23,14 @@ pub only_on :
     → ChangesOnly bases waits owners protocols p q
     → ChangesOnly bases' waits' owners' protocols' q r
     → ((k : ℕ) → ¬ bases k → ¬ bases' k)
-    → ((k : ℕ) → ¬ waits k → q.awaits k ≡ p.awaits k → ¬ waits' k)
+    → ((k : ℕ) → ¬ waits k → q.waits k ≡ p.waits k → ¬ waits' k)
     → ((n : ℕ) → ¬ owners n → nth q.owner n ≡ nth p.owner n → ¬ owners' n)
     → ((n : ℕ) → ¬ protocols n → ¬ protocols' n)
     → ChangesOnly bases waits owners protocols p r
 only_on bases waits owners protocols bases' waits' owners' protocols' p q r a b base wait owner protocol = record {
   base = λ k h. b.base k (base k h) ∙ a.base k h;
-  wait = λ k h. let same : q.awaits k ≡ p.awaits k = a.wait k h in b.wait k (wait k h same) ∙ same;
+  wait = λ k h. let same : q.waits k ≡ p.waits k = a.wait k h in b.wait k (wait k h same) ∙ same;
+  next = omega (arith, a.next, b.next);
   owner = λ n h. let same : nth q.owner n ≡ nth p.owner n = a.owner n h in b.owner n (owner n h same) ∙ same;
   protocol = λ n h. b.protocol n (protocol n h) ∙ a.protocol n h;
 }
@@ -55,6 +46,7 @@ pub only_weaker :
 only_weaker bases waits owners protocols bases' waits' owners' protocols' p q a base wait owner protocol = record {
   base = λ k h. a.base k (λ x. h (base k x));
   wait = λ k h. a.wait k (λ x. h (wait k x));
+  next = a.next;
   owner = λ n h. a.owner n (λ x. h (owner n x));
   protocol = λ n h. a.protocol n (λ x. h (protocol n x));
 }
@@ -66,7 +58,8 @@ pub same_only :
     → ChangesOnly bases waits owners protocols p q
 same_only bases waits owners protocols p q same = record {
   base = λ k h. ap (λ (xs : List ℕ). nth xs k) same.base;
-  wait = λ k h. same.awaits k;
+  wait = λ k h. same.waits k;
+  next = omega (arith, same.next);
   owner = λ n h. ap (λ (xs : List (Option ℕ)). nth xs n) same.owner;
   protocol = λ n h. ap (λ xs. nth xs n) same.protocol;
 }
@@ -82,7 +75,7 @@ only_same bases waits owners protocols p q r a same =
 
 -- ---- by an observation
 
-other_wait : (f : ℕ → Option ℕ) (k j : ℕ) (o : Option ℕ) → Some k ≢ Some j → cond (eqb j k) o (f j) ≡ f j
+other_wait : (f : ℕ → Option Wait) (k j : ℕ) (o : Option Wait) → Some k ≢ Some j → cond (eqb j k) o (f j) ≡ f j
 other_wait f k j o ne = rw (ne_eqb j k (λ is. ne (ap Some (sym is)))) refl
 
 given_only :
@@ -91,12 +84,14 @@ given_only :
 given_only p n None = record {
   base = λ j h. refl;
   wait = λ j h. refl;
+  next = omega arith;
   owner = λ m h. nth-put_other p.owner n m None (λ is. h (ap Some is));
   protocol = λ m h. refl;
 }
 given_only p n (Some k) = record {
   base = λ j h. refl;
-  wait = λ j h. other_wait p.awaits k j None h;
+  wait = λ j h. other_wait p.waits k j None h;
+  next = omega arith;
   owner = λ m h. nth-put_other p.owner n m (Some k) (λ is. h (ap Some is));
   protocol = λ m h. refl;
 }
@@ -108,26 +103,34 @@ none_given :
 none_given p n o = record {
   base = λ j h. refl;
   wait = λ j h. refl;
+  next = omega arith;
   owner = λ m h. nth-put_other p.owner n m None (λ is. h (ap Some is));
   protocol = λ m h. refl;
 }
 
 wait_only :
-    (p : Program) (k : ℕ) (o : Option ℕ)
-    → ChangesThose (record { base = None; wait = Some k; owner = None; ceiling = None }) p (with_wait_for p k o)
-wait_only p k o = record {
-  base = λ j h. refl;
-  wait = λ j h. other_wait p.awaits k j o h;
-  owner = λ m h. refl;
-  protocol = λ m h. refl;
+    (p q : Program) (k : ℕ) (o : Option Wait)
+    → q.owner ≡ p.owner
+    → q.base ≡ p.base
+    → q.protocol ≡ p.protocol
+    → p.next ≤ q.next
+    → ((j : ℕ) → q.waits j ≡ (with_wait p k o).waits j)
+    → ChangesThose (record { base = None; wait = Some k; owner = None; ceiling = None }) p q
+wait_only p q k o owner base protocol next waits = record {
+  base = λ j h. ap (λ (xs : List ℕ). nth xs j) base;
+  wait = λ j h. waits j ∙ other_wait p.waits k j o h;
+  next = next;
+  owner = λ m h. ap (λ (xs : List (Option ℕ)). nth xs m) owner;
+  protocol = λ m h. ap (λ xs. nth xs m) protocol;
 }
 
 observed_only : (p : Program) (o : Observation) → ChangesBy o p (observed p o)
 observed_only p (Granted k n) = given_only p n (Some k)
-observed_only p (Waits k n) = wait_only p k (Some n)
-observed_only p (GaveUp k) = wait_only p k None
+observed_only p (Waits k n) =
+    wait_only p (observed p (Waits k n)) k (Some (record { mutex = n; ticket = p.next })) refl refl refl (omega arith) (λ j. refl)
+observed_only p (GaveUp k) = wait_only p (observed p (GaveUp k)) k None refl refl refl (omega arith) (λ j. refl)
 observed_only p (Released k n None) = given_only p n None
-observed_only p (Released k n (Some u)) = go (holds (p.awaits u) n)
+observed_only p (Released k n (Some u)) = go (holds (awaits p u) n)
   where
     go :
         (b : Bool)
@@ -138,12 +141,14 @@ observed_only p (Released k n (Some u)) = go (holds (p.awaits u) n)
 observed_only p (Base k level) = record {
   base = λ j h. nth-put_other p.base k j level (λ is. h (ap Some is));
   wait = λ j h. refl;
+  next = omega arith;
   owner = λ m h. refl;
   protocol = λ m h. refl;
 }
 observed_only p (Ceiling n level) = record {
   base = λ j h. refl;
   wait = λ j h. refl;
+  next = omega arith;
   owner = λ m h. refl;
   protocol = λ m h. nth-put_other p.protocol n m _ (λ is. h (ap Some is));
 }
@@ -177,6 +182,7 @@ around_base p q r s o k base ceiling was first then last =
             to.base j (λ e. ne (same_Some k j e)) ∙ (only.base j h ∙ from.base j (λ e. ne (same_Some k j e)))
       ];
       wait = λ j h. to.wait j (λ e. none-some j e) ∙ (only.wait j h ∙ from.wait j (λ e. none-some j e));
+      next = omega (arith, from.next, only.next, to.next);
       owner = λ n h. to.owner n (λ e. none-some n e) ∙ (only.owner n h ∙ from.owner n (λ e. none-some n e));
       protocol = λ n h. to.protocol n (λ e. none-some n e) ∙ (only.protocol n h ∙ from.protocol n (λ e. none-some n e));
     }
@@ -191,213 +197,48 @@ around_base p q r s o k base ceiling was first then last =
         let within = nth_within r.base k ceiling (same ∙ set) in
         ap (λ (xs : List ℕ). nth xs k) last.base ∙ nth-put_same r.base k base within.0 within.1
 
--- ---- tasks stop waiting, and wait again
-
-pub same_observed : (p q : Program) (o : Observation) → IsSame p q → IsSame (observed p o) (observed q o)
-same_observed p q (Granted k n) same = same_given p q n (Some k) same
-same_observed p q (Waits k n) same = record {
-  owner = same.owner;
-  awaits = λ j. ap (λ o. cond (eqb j k) (Some n) o) (same.awaits j);
-  base = same.base;
-  protocol = same.protocol;
-}
-same_observed p q (GaveUp k) same = record {
-  owner = same.owner;
-  awaits = λ j. ap (λ o. cond (eqb j k) None o) (same.awaits j);
-  base = same.base;
-  protocol = same.protocol;
-}
-same_observed p q (Released k n None) same = same_given p q n None same
-same_observed p q (Released k n (Some u)) same =
-    subst (λ o. IsSame (given p n (waiting_for p n (Some u))) (given q n (cond (holds o n) (Some u) None)))
-    (sym (same.awaits u))
-    (same_given p q n (waiting_for p n (Some u)) same)
-same_observed p q (Base k level) same = record {
-  owner = same.owner;
-  awaits = same.awaits;
-  base = ap (λ (xs : List ℕ). put xs k level) same.base;
-  protocol = same.protocol;
-}
-same_observed p q (Ceiling n level) same = record {
-  owner = same.owner;
-  awaits = same.awaits;
-  base = same.base;
-  protocol = ap (λ xs. put xs n (Protocol.Protect level)) same.protocol;
-}
-
-observed_more :
-    (p : Program) (os : List Observation) (o : Observation)
-    → all_observed p (os ++ o ∷ []) ≡ observed (all_observed p os) o
-observed_more p [] o = refl
-observed_more p (x ∷ os) o = observed_more (observed p x) os o
-
--- one more is observed
-pub one_observed :
-    (p q r : Program) (os : List Observation) (o : Observation)
-    → IsSame (all_observed p os) q
-    → IsSame (observed q o) r
-    → IsSame (all_observed p (os ++ o ∷ [])) r
-one_observed p q r os o before same =
-    subst (λ x. IsSame x r) (sym (observed_more p os o))
-    (same_trans (observed (all_observed p os) o) (observed q o) r (same_observed (all_observed p os) q o before) same)
-
--- those up to the next item of a list are observed
-pub next_observed :
-    {W : Type 0} (g : W → Observation) (ws : List W) (i : ℕ) (d : W) (p q r : Program)
-    → i < length ws
-    → IsSame (all_observed p (map g (take i ws))) q
-    → IsSame (observed q (g (get_or ws i d))) r
-    → IsSame (all_observed p (map g (take (i + 1) ws))) r
-next_observed g ws i d p q r below before same =
-    subst (λ os. IsSame (all_observed p os) r)
-    (sym (ap (map g) (take_more ws i d below) ∙ map-append g (take i ws) (get_or ws i d ∷ [])))
-    (one_observed p q r (map g (take i ws)) (g (get_or ws i d)) before same)
-
--- all are
-pub last_observed :
-    {W : Type 0} (g : W → Observation) (ws vs : List W) (i : ℕ) (p q : Program)
-    → length ws ≤ i
-    → ws ≡ vs
-    → IsSame (all_observed p (map g (take i ws))) q
-    → IsSame (all_observed p (map g vs)) q
-last_observed g ws vs i p q end are before =
-    subst (λ xs. IsSame (all_observed p (map g xs)) q) (take_all i ws end ∙ are) before
-
--- a task in the queue of a mutex waits for it
-pub queued_awaits :
-    (r : ReplayState) (S T : State) (m : ℕ) (ws : List Waiter) (w : Waiter)
-    → S ≡ r.state
-    → T ≡ r.state
-    → IsSteady S
-    → Some ws ≡ of_mutex T m (queue_of T m)
-    → Contains ws w
-    → awaited r w.task ≡ Some m
-queued_awaits r S T m ws w is also steady shown among =
-    ap (λ o. option_or (mutex_of o) (mutex_of (outside_of r w.task)))
-    (among_waits r.state w.task m w.ticket w (subst IsSteady is steady)
-    (subst (λ U. Contains (queue_of U m) w) also (subst (λ xs. Contains xs w) (go (unknown_mutex T m) shown) among))
-    refl refl)
-  where
-    go : (b : Bool) → Some ws ≡ cond b None (Some (queue_of T m)) → ws ≡ queue_of T m
-    go true e = absurd (none-some ws (sym e))
-    go false e = same_Some ws (queue_of T m) e
-
--- the bases, the owners and the protocols stay
-abbrev KeepsRest : Program → Program → Type 0
-KeepsRest p q = (q.base ≡ p.base) × (q.owner ≡ p.owner) × (q.protocol ≡ p.protocol)
-
-module _ {W : Type 0} (task mutex : W → ℕ) where
-  -- none of the waits is of this task
-  abbrev Elsewhere : ℕ → List W → Type 0
-  Elsewhere k [] = Unit {0}
-  Elsewhere k (w ∷ ws) = (task w ≢ k) × Elsewhere k ws
-
-  stopped_rest : (p : Program) (ws : List W) → KeepsRest p (all_observed p (map (λ w. GaveUp (task w)) ws))
-  stopped_rest p [] = (refl, refl, refl)
-  stopped_rest p (w ∷ ws) = stopped_rest (observed p (GaveUp (task w))) ws
-
-  again_rest : (p : Program) (ws : List W) → KeepsRest p (all_observed p (map (λ w. Waits (task w) (mutex w)) ws))
-  again_rest p [] = (refl, refl, refl)
-  again_rest p (w ∷ ws) = again_rest (observed p (Waits (task w) (mutex w))) ws
-
-  -- another task waits as before
-  stopped_wait :
-      (p : Program) (ws : List W) (k : ℕ)
-      → Elsewhere k ws
-      → (all_observed p (map (λ w. GaveUp (task w)) ws)).awaits k ≡ p.awaits k
-  stopped_wait p [] k none = refl
-  stopped_wait p (w ∷ ws) k none =
-      stopped_wait (observed p (GaveUp (task w))) ws k none.1
-      ∙ other_wait p.awaits (task w) k None (λ e. none.0 (same_Some (task w) k e))
-
-  -- a task waits as it did in `before`, if each of the waits is one of there, and it does so where it has none of them
-  again_wait :
-      (before : ℕ → Option ℕ) (p : Program) (ws : List W) (k : ℕ)
-      → All (λ w. before (task w) ≡ Some (mutex w)) ws
-      → (Elsewhere k ws → p.awaits k ≡ before k)
-      → (all_observed p (map (λ w. Waits (task w) (mutex w)) ws)).awaits k ≡ before k
-  again_wait before p [] k waited others = others tt
-  again_wait before p (w ∷ ws) k waited others =
-      again_wait before (observed p (Waits (task w) (mutex w))) ws k
-      (All-tail (λ w. before (task w) ≡ Some (mutex w)) w ws waited)
-      (λ none. elim (cases_eq k (task w)) [
-        | inl is ↦ rw (eq-eqb k (task w) is)
-            (sym (All-head (λ w. before (task w) ≡ Some (mutex w)) w ws waited) ∙ ap before (sym is))
-        | inr ne ↦ rw (ne_eqb k (task w) ne) (others (λ is. ne (sym is), none))
-      ])
-
-  -- so around a change the waits of all others stay
-  pub around_waits :
-      (ws vs : List W) (c : Changed) (p q r s : Program)
-      → vs ≡ ws
-      → All (λ w. p.awaits (task w) ≡ Some (mutex w)) ws
-      → IsSame (all_observed p (map (λ w. GaveUp (task w)) ws)) q
-      → ChangesThose c q r
-      → IsSame (all_observed r (map (λ w. Waits (task w) (mutex w)) vs)) s
-      → ChangesThose c p s
-  around_waits ws vs c p q r s are waited first only again =
-      let last : IsSame (all_observed r (map (λ w. Waits (task w) (mutex w)) ws)) s =
-      subst (λ xs. IsSame (all_observed r (map (λ w. Waits (task w) (mutex w)) xs)) s) are again in
-      let stopped = stopped_rest p ws in
-      let rest = again_rest r ws in
-      record {
-        base = λ k h.
-            ap (λ (xs : List ℕ). nth xs k) (last.base ∙ rest.0)
-            ∙ (only.base k h ∙ ap (λ (xs : List ℕ). nth xs k) (first.base ∙ stopped.0));
-        wait = λ k h.
-            last.awaits k
-            ∙ again_wait p.awaits r ws k waited
-            (λ none. only.wait k h ∙ (first.awaits k ∙ stopped_wait p ws k none));
-        owner = λ n h.
-            ap (λ (xs : List (Option ℕ)). nth xs n) (last.owner ∙ rest.1)
-            ∙ (only.owner n h ∙ ap (λ (xs : List (Option ℕ)). nth xs n) (first.owner ∙ stopped.1));
-        protocol = λ n h.
-            ap (λ xs. nth xs n) (last.protocol ∙ rest.2)
-            ∙ (only.protocol n h ∙ ap (λ xs. nth xs n) (first.protocol ∙ stopped.2));
-      }
-
 -- ---- a task leaves, a mutex becomes free
 
 pub leaves_refl : (k : ℕ) (p : Program) → OnlyLeaves k p p
-leaves_refl k p = same_only Nobody (λ j. k ≡ j) (λ n. owner_in p n ≡ Some k) Nobody p p (same_refl p)
+leaves_refl k p = same_only Nobody (λ j. k ≡ j) (λ n. holder_in p.owner n ≡ Some k) Nobody p p (same_refl p)
 
 -- it gives up its wait
 pub leaves_wait : (k : ℕ) (p q : Program) → IsSame (observed p (GaveUp k)) q → OnlyLeaves k p q
 leaves_wait k p q same =
     only_weaker (λ j. None ≡ Some j) (λ j. Some k ≡ Some j) (λ j. None ≡ Some j) (λ j. None ≡ Some j)
-    Nobody (λ j. k ≡ j) (λ n. owner_in p n ≡ Some k) Nobody p q (by_observation p q (GaveUp k) same)
+    Nobody (λ j. k ≡ j) (λ n. holder_in p.owner n ≡ Some k) Nobody p q (by_observation p q (GaveUp k) same)
     (λ j e. none-some j e) (λ j e. same_Some k j e) (λ j e. absurd (none-some j e)) (λ j e. none-some j e)
 
 -- it releases one more of its mutexes
 pub leaves_mutex :
     (k n : ℕ) (p q r : Program)
     → OnlyLeaves k p q
-    → owner_in q n ≡ Some k
+    → holder_in q.owner n ≡ Some k
     → IsSame (observed q (Released k n None)) r
     → OnlyLeaves k p r
 leaves_mutex k n p q r before owns same =
-    only_on Nobody (λ j. k ≡ j) (λ n. owner_in p n ≡ Some k) Nobody
+    only_on Nobody (λ j. k ≡ j) (λ n. holder_in p.owner n ≡ Some k) Nobody
     (λ j. None ≡ Some j) (λ j. None ≡ Some j) (λ j. Some n ≡ Some j) (λ j. None ≡ Some j) p q r before
     (by_observation q r (Released k n None) same)
     (λ j h e. none-some j e) (λ j h e is. none-some j is)
-    (λ j h e is. h (sym (ap (λ o. unwrap_or o None) e) ∙ ap (owner_in q) (sym (same_Some n j is)) ∙ owns))
+    (λ j h e is. h (sym (ap (λ o. unwrap_or o None) e) ∙ ap (holder_in q.owner) (sym (same_Some n j is)) ∙ owns))
     (λ j h e. none-some j e)
 
 pub clears_refl : (n : ℕ) (p : Program) → OnlyClears n p p
-clears_refl n p = same_only Nobody (λ k. p.awaits k ≡ Some n) (λ j. n ≡ j) Nobody p p (same_refl p)
+clears_refl n p = same_only Nobody (λ k. awaits p k ≡ Some n) (λ j. n ≡ j) Nobody p p (same_refl p)
 
 -- one more task gives up its wait for it
 pub clears_wait :
     (n k : ℕ) (p q r : Program)
     → OnlyClears n p q
-    → q.awaits k ≡ Some n
+    → awaits q k ≡ Some n
     → IsSame (observed q (GaveUp k)) r
     → OnlyClears n p r
 clears_wait n k p q r before waits same =
-    only_on Nobody (λ k. p.awaits k ≡ Some n) (λ j. n ≡ j) Nobody
+    only_on Nobody (λ k. awaits p k ≡ Some n) (λ j. n ≡ j) Nobody
     (λ j. None ≡ Some j) (λ j. Some k ≡ Some j) (λ j. None ≡ Some j) (λ j. None ≡ Some j) p q r before
     (by_observation q r (GaveUp k) same)
-    (λ j h e. none-some j e) (λ j h e is. h (sym e ∙ ap q.awaits (sym (same_Some k j is)) ∙ waits))
+    (λ j h e. none-some j e) (λ j h e is. h (sym (ap mutex_of e) ∙ ap (awaits q) (sym (same_Some k j is)) ∙ waits))
     (λ j h e is. none-some j is)
     (λ j h e. none-some j e)
 
@@ -408,8 +249,183 @@ pub clears_mutex :
     → IsSame (observed q (Released k n None)) r
     → OnlyClears n p r
 clears_mutex n k p q r before same =
-    only_on Nobody (λ k. p.awaits k ≡ Some n) (λ j. n ≡ j) Nobody
+    only_on Nobody (λ k. awaits p k ≡ Some n) (λ j. n ≡ j) Nobody
     (λ j. None ≡ Some j) (λ j. None ≡ Some j) (λ j. Some n ≡ Some j) (λ j. None ≡ Some j) p q r before
     (by_observation q r (Released k n None) same)
     (λ j h e. none-some j e) (λ j h e is. none-some j is) (λ j h e is. h (same_Some n j is))
     (λ j h e. none-some j e)
+
+-- ---- a task has nothing then, a mutex is unused
+
+holder_within : (xs : List (Option ℕ)) (n k : ℕ) → holder_in xs n ≡ Some k → n ≤ length xs
+holder_within xs n k holds = go (nth xs n) refl holds
+  where
+    go : (o : Option (Option ℕ)) → nth xs n ≡ o → unwrap_or o None ≡ Some k → n ≤ length xs
+    go None is e = absurd (none-some k e)
+    go (Some x) is e = (nth_within xs n x is).1
+
+holder_put : (xs : List (Option ℕ)) (n : ℕ) → holder_in (put xs n None) n ≡ None
+holder_put xs n = elim (unwrap_or-put_same xs n None) [ inl h ↦ h | inr h ↦ h ]
+
+-- a mutex that is released has no owner, and no other one has another
+released_owner :
+    (k n : ℕ) (p q : Program)
+    → IsSame (observed p (Released k n None)) q
+    → (holder_in q.owner n ≡ None) × ((j : ℕ) → n ≢ j → nth q.owner j ≡ nth p.owner j)
+released_owner k n p q same = (
+  ap (λ xs. holder_in xs n) same.owner ∙ holder_put p.owner n,
+  λ j ne. ap (λ (xs : List (Option ℕ)). nth xs j) same.owner ∙ nth-put_other p.owner n j None ne,
+)
+
+-- a task owns none of the mutexes so far
+abbrev pub OwnsNoneTo : ℕ → Program → ℕ → Type 0
+OwnsNoneTo k p place = (n : ℕ) → n ≤ place → holder_in p.owner n ≢ Some k
+
+pub owns_none_first : (k : ℕ) (p : Program) → OwnsNoneTo k p 0
+owns_none_first k p zero low owns = none-some k owns
+owns_none_first k p (suc n) low owns = absurd (omega (arith, low))
+
+pub owns_none_released :
+    (k place : ℕ) (p q : Program)
+    → OwnsNoneTo k p place
+    → IsSame (observed p (Released k (place + 1) None)) q
+    → OwnsNoneTo k q (place + 1)
+owns_none_released k place p q before same n low owns = elim (cases_eq (place + 1) n) [
+  | inl is ↦ none-some k (sym (released_owner k (place + 1) p q same).0 ∙ (ap (holder_in q.owner) is ∙ owns))
+  | inr ne ↦ before n (omega (arith, low, ne))
+      (sym (ap (λ o. unwrap_or o None) ((released_owner k (place + 1) p q same).1 n ne)) ∙ owns)
+]
+
+pub owns_none_next :
+    (k place : ℕ) (p : Program)
+    → OwnsNoneTo k p place
+    → holder_in p.owner (place + 1) ≢ Some k
+    → OwnsNoneTo k p (place + 1)
+owns_none_next k place p before here n low owns = elim (cases_eq (place + 1) n) [
+  | inl is ↦ here (ap (holder_in p.owner) is ∙ owns)
+  | inr ne ↦ before n (omega (arith, low, ne)) owns
+]
+
+-- so it owns none at all
+pub owns_none : (k place : ℕ) (p : Program) → OwnsNoneTo k p place → length p.owner ≤ place → (n : ℕ) → holder_in p.owner n ≢ Some k
+owns_none k place p before all n owns = before n (omega (arith, all, holder_within p.owner n k owns)) owns
+
+pub released_count : (k n : ℕ) (p q : Program) → IsSame (observed p (Released k n None)) q → length q.owner ≡ length p.owner
+released_count k n p q same = ap (λ (xs : List (Option ℕ)). length xs) same.owner ∙ length-put p.owner n None
+
+pub leaves_on : (k : ℕ) (p q r : Program) → OnlyLeaves k p q → OnlyLeaves k q r → OnlyLeaves k p r
+leaves_on k p q r a b =
+    only_on Nobody (λ j. k ≡ j) (λ n. holder_in p.owner n ≡ Some k) Nobody
+    Nobody (λ j. k ≡ j) (λ n. holder_in q.owner n ≡ Some k) Nobody p q r a b
+    (λ j h none. none) (λ j h e is. h is)
+    (λ n h e owns. h (sym (ap (λ o. unwrap_or o None) e) ∙ owns)) (λ j h none. none)
+
+-- who gave up waits for nothing
+pub gave_up_wait : (k : ℕ) (p q : Program) → IsSame (observed p (GaveUp k)) q → q.waits k ≡ None
+gave_up_wait k p q same = same.waits k ∙ ap (λ b. cond b None (p.waits k)) (eq-eqb k k refl)
+
+-- ---- nobody becomes an owner, and nobody begins to wait
+
+pub frees_refl : (p : Program) → OnlyFrees p p
+frees_refl p = record { owners = λ n. inl refl; waits = λ k. inl refl }
+
+pub frees_on : (p q r : Program) → OnlyFrees p q → OnlyFrees q r → OnlyFrees p r
+frees_on p q r a b = record {
+  owners = λ n. elim (b.owners n) [
+    | inr none ↦ inr none
+    | inl same ↦ elim (a.owners n) [
+      | inl before ↦ inl (same ∙ before)
+      | inr none ↦ inr (ap (λ o. unwrap_or o None) same ∙ none)
+    ]
+  ];
+  waits = λ k. elim (b.waits k) [
+    | inr none ↦ inr none
+    | inl same ↦ elim (a.waits k) [
+      | inl before ↦ inl (same ∙ before)
+      | inr none ↦ inr (same ∙ none)
+    ]
+  ];
+}
+
+pub gave_up_frees : (k : ℕ) (p q : Program) → IsSame (observed p (GaveUp k)) q → OnlyFrees p q
+gave_up_frees k p q same = record {
+  owners = λ n. inl (ap (λ (xs : List (Option ℕ)). nth xs n) same.owner);
+  waits = λ j. elim (cases_eq k j) [
+    | inl is ↦ inr (sym (ap q.waits is) ∙ gave_up_wait k p q same)
+    | inr ne ↦ inl ((by_observation p q (GaveUp k) same).wait j (λ e. ne (same_Some k j e)))
+  ];
+}
+
+pub released_frees : (k n : ℕ) (p q : Program) → IsSame (observed p (Released k n None)) q → OnlyFrees p q
+released_frees k n p q same = record {
+  owners = λ j. elim (cases_eq n j) [
+    | inl is ↦ inr (sym (ap (holder_in q.owner) is) ∙ (released_owner k n p q same).0)
+    | inr ne ↦ inl ((released_owner k n p q same).1 j ne)
+  ];
+  waits = λ j. inl (same.waits j);
+}
+
+-- none of the tasks so far waits for a mutex
+abbrev pub AwaitsNoneTo : ℕ → Program → ℕ → Type 0
+AwaitsNoneTo n p place = (k : ℕ) → k ≤ place → awaits p k ≢ Some n
+
+-- nor do those that there aren't
+abbrev pub NoneBeyond : ℕ → Program → Type 0
+NoneBeyond count p = (k : ℕ) → count < k → p.waits k ≡ None
+
+pub awaits_none_first : (n : ℕ) (r : ReplayState) → AwaitsNoneTo n (program_of r) 0
+awaits_none_first n r zero low waits = none-some n waits
+awaits_none_first n r (suc k) low waits = absurd (omega (arith, low))
+
+pub none_beyond : (count : ℕ) (r : ReplayState) → length r.waits ≡ count → NoneBeyond count (program_of r)
+none_beyond count r tasks k beyond = ap (λ o. unwrap_or o None) (nth-past r.waits k (omega (arith, tasks, beyond)))
+
+pub awaits_none_gave_up :
+    (n place : ℕ) (p q : Program)
+    → AwaitsNoneTo n p place
+    → IsSame (observed p (GaveUp (place + 1))) q
+    → AwaitsNoneTo n q (place + 1)
+awaits_none_gave_up n place p q before same k low waits = elim (cases_eq (place + 1) k) [
+  | inl is ↦ none-some n (sym (ap mutex_of (gave_up_wait (place + 1) p q same)) ∙ (ap (awaits q) is ∙ waits))
+  | inr ne ↦ before k (omega (arith, low, ne))
+      (sym (ap mutex_of ((by_observation p q (GaveUp (place + 1)) same).wait k (λ e. ne (same_Some (place + 1) k e)))) ∙ waits)
+]
+
+pub awaits_none_next :
+    (n place : ℕ) (p : Program)
+    → AwaitsNoneTo n p place
+    → awaits p (place + 1) ≢ Some n
+    → AwaitsNoneTo n p (place + 1)
+awaits_none_next n place p before here k low waits = elim (cases_eq (place + 1) k) [
+  | inl is ↦ here (ap (awaits p) is ∙ waits)
+  | inr ne ↦ before k (omega (arith, low, ne)) waits
+]
+
+pub beyond_gave_up : (count k : ℕ) (p q : Program) → NoneBeyond count p → IsSame (observed p (GaveUp k)) q → NoneBeyond count q
+beyond_gave_up count k p q none same j beyond = elim ((gave_up_frees k p q same).waits j) [
+  | inl is ↦ is ∙ none j beyond
+  | inr is ↦ is
+]
+
+pub awaits_none :
+    (n place count : ℕ) (p : Program)
+    → AwaitsNoneTo n p place
+    → count ≤ place
+    → NoneBeyond count p
+    → (k : ℕ)
+    → awaits p k ≢ Some n
+awaits_none n place count p before all none k waits = elim (cases_lt place k) [
+  | inl beyond ↦ none-some n (sym (ap mutex_of (none k (omega (arith, all, beyond)))) ∙ waits)
+  | inr here ↦ before k (omega (arith, here)) waits
+]
+
+-- a mutex that its owner releases, and nobody awaits, is unused
+pub released_unused :
+    (k n : ℕ) (p q : Program)
+    → ((j : ℕ) → awaits p j ≢ Some n)
+    → IsSame (observed p (Released k n None)) q
+    → IsUnused n q
+released_unused k n p q none same = record {
+  owner = (released_owner k n p q same).0;
+  waits = λ j waits. none j (sym (ap mutex_of (same.waits j)) ∙ waits);
+}

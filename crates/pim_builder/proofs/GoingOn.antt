@@ -4,7 +4,7 @@ use Rattle.std.proofs.Common.{append_assoc, length, replicate, sum_by, flat_map,
 use Rattle.std.proofs.lemmas.List.{append-nil, length-append, length-replicate, replicate-append-replicate, replicate_more}
 use Rattle.std.proofs.lemmas.List.Concat.{flat_map-append}
 use Rattle.std.proofs.lemmas.List.Sums.{sum_by-append, sum_by-cons, sum_by_push}
-use Rattle.pim_replay.specs.Replays.{ReplayState, Continues}
+use Rattle.pim_replay.specs.Replays.{ReplayState, Continues, StaysInOrder}
 use Rattle.pim_replay.specs.declared.piece.Piece.{Piece}
 use Rattle.pim_replay.proofs.Replaying.{continues_refl, continues_trans}
 use Rattle.pim_builder.specs.Pieces.{Point, EndWith, IsContinued, IsIn, Reaches, HasTimes, times_of, GoesOn}
@@ -59,6 +59,7 @@ goes_on_refl time p = record {
   further = 0;
   times = sym (append-nil (times_of p));
   timed = λ t. t;
+  order = λ order. order;
 }
 
 pub goes_on_trans : (time : ℕ) (p q r : Point) → GoesOn time p q → GoesOn time q r → GoesOn time p r
@@ -71,6 +72,7 @@ goes_on_trans time p q r a b = record {
       ∙ append_assoc (times_of p) (replicate a.further time) (replicate b.further time)
       ∙ ap (λ ts. times_of p ++ ts) (replicate-append-replicate a.further b.further time);
   timed = λ t. b.timed (a.timed t);
+  order = λ order. b.order (a.order order);
 }
 
 -- ---- how many steps
@@ -99,8 +101,9 @@ pub steps_made :
     → new.restoring ≡ old.restoring
     → Continues old.replay new.replay
     → new.times ≡ old.times ++ replicate (length new.replay.entries - length old.times) time
+    → StaysInOrder old.replay new.replay
     → GoesOn time p q
-steps_made time ended old new p q is then same on times =
+steps_made time ended old new p q is then same on times order =
     subst (λ p. GoesOn time p q) is (subst (GoesOn time (record { before = ended; piece = old })) then made)
   where
     further : ℕ
@@ -119,6 +122,7 @@ steps_made time ended old new p q is then same on times =
       further = further;
       times = ap (λ ts. before ++ ts) times ∙ sym (append_assoc before old.times (replicate further time));
       timed = λ timed. omega (arith, timed, count, longer old.replay new.replay on);
+      order = order;
     }
 
 -- the piece ends, and the next one begins
@@ -127,8 +131,10 @@ pub piece_begun :
     → EndWith p q.before
     → q.piece ≡ next
     → next.times ≡ replicate (length next.replay.entries) time
+    → StaysInOrder p.piece.replay next.replay
     → GoesOn time p q
-piece_begun time p q next ended is times = record {
+piece_begun time p q next ended is times order = record {
+  order = subst (λ (piece : Piece). StaysInOrder p.piece.replay piece.replay) (sym is) order;
   reached = inr (record { piece = p.piece; others = []; all = ended; continued = continued_refl p.piece });
   further = length next.replay.entries;
   times =

@@ -1,23 +1,24 @@
 -- What changes in a trace, at most, while it comes to show a fact.
-use Rattle.std.specs.Prelude.{◌≡◌, ◌⊎◌, ℕ, List, [], ◌∷◌, Option, None, Some, unwrap_or}
+use Rattle.std.specs.Prelude.{◌≡◌, ◌≢◌, ◌⊎◌, ◌≤◌, ℕ, Option, None, Some, IfSome}
 use Rattle.std.specs.Option.{option_and_then}
 use Rattle.pim_base.specs.Lists.{nth}
 use Rattle.pim_facts.specs.Shown.{mutex_of}
 use Rattle.pim_facts.specs.declared.fact.Fact.{Fact}
 use Rattle.pim_facts.specs.declared.fact.What.{What}
 use Rattle.pim_facts.specs.declared.fact.What.TheVariants as what
-use Rattle.pim_replay.specs.Replays.{Program, observed, program_of}
+use Rattle.pim_replay.specs.Replays.{Program, awaits}
 use Rattle.pim_replay.specs.declared.observation.Observation.{Observation}
 use Rattle.pim_replay.specs.declared.observation.Observation.TheVariants as observation
-use Rattle.pim_builder.specs.Pieces.{Point}
-use Rattle.pim_builder.specs.Showing.{IsSetting, held, number_in}
+use Rattle.pim_builder.specs.Showing.{HoldsOf, IsSetting}
+use Rattle.pim_builder.specs.Views.{View, holder_in, mutex_in, task_in}
 use Rattle.pim_builder.specs.declared.builder.Context.{Context}
-use Rattle.pim_builder.specs.declared.builder.TraceBuilder.{TraceBuilder}
 
--- no more changes from one program to another: the bases and waits of these tasks, the owners and protocols of these mutexes
+-- No more changes from one program to another: the bases and waits of these tasks, the owners and protocols of these
+-- mutexes. Each other wait has the same number, and the number of the next wait doesn't fall.
 pub record ChangesOnly (bases waits owners protocols : ℕ → Type 0) (p q : Program) : Type 0 where
   pub base : (k : ℕ) → ¬ bases k → nth q.base k ≡ nth p.base k
-  pub wait : (k : ℕ) → ¬ waits k → q.awaits k ≡ p.awaits k
+  pub wait : (k : ℕ) → ¬ waits k → q.waits k ≡ p.waits k
+  pub next : p.next ≤ q.next
   pub owner : (n : ℕ) → ¬ owners n → nth q.owner n ≡ nth p.owner n
   pub protocol : (n : ℕ) → ¬ protocols n → nth q.protocol n ≡ nth p.protocol n
 
@@ -50,26 +51,28 @@ changed_by (observation.Ceiling n level) = record { base = None; wait = None; ow
 abbrev pub ChangesBy : Observation → Program → Program → Type 0
 ChangesBy o = ChangesThose (changed_by o)
 
--- the program after these observations, one after the other
-abbrev pub all_observed : Program → List Observation → Program
-all_observed p [] = p
-all_observed p (o ∷ os) = all_observed (observed p o) os
-
--- the owner of a mutex in a program
-abbrev pub owner_in : Program → ℕ → Option ℕ
-owner_in p n = unwrap_or (nth p.owner n) None
-
 -- no more changes than that a task leaves: its own wait, and who owns what it owned
 abbrev pub OnlyLeaves : ℕ → Program → Program → Type 0
-OnlyLeaves k p = ChangesOnly Nobody (λ j. k ≡ j) (λ n. owner_in p n ≡ Some k) Nobody p
+OnlyLeaves k p = ChangesOnly Nobody (λ j. k ≡ j) (λ n. holder_in p.owner n ≡ Some k) Nobody p
 
 -- no more than that a mutex becomes free: its owner, and the waits for it
 abbrev pub OnlyClears : ℕ → Program → Program → Type 0
-OnlyClears n p = ChangesOnly Nobody (λ k. p.awaits k ≡ Some n) (λ j. n ≡ j) Nobody p
+OnlyClears n p = ChangesOnly Nobody (λ k. awaits p k ≡ Some n) (λ j. n ≡ j) Nobody p
 
--- the program at a point
-abbrev pub program_at : Point → Program
-program_at point = program_of point.piece.replay
+-- a task owns nothing, and waits for nothing
+pub record HasNothing (k : ℕ) (p : Program) : Type 0 where
+  pub owns : (n : ℕ) → holder_in p.owner n ≢ Some k
+  pub waits : p.waits k ≡ None
+
+-- a mutex has no owner, and nobody waits for it
+pub record IsUnused (n : ℕ) (p : Program) : Type 0 where
+  pub owner : holder_in p.owner n ≡ None
+  pub waits : (k : ℕ) → awaits p k ≢ Some n
+
+-- nobody becomes an owner, and nobody begins to wait
+pub record OnlyFrees (p q : Program) : Type 0 where
+  pub owners : (n : ℕ) → (nth q.owner n ≡ nth p.owner n) ⊎ (holder_in q.owner n ≡ None)
+  pub waits : (k : ℕ) → (q.waits k ≡ p.waits k) ⊎ (q.waits k ≡ None)
 
 -- the threads and mutexes of the log that a fact changes, where its thread is t
 abbrev pub changed_by_fact : What → ℕ → Changed
@@ -80,27 +83,6 @@ changed_by_fact (what.Released m next) t = record { base = None; wait = next; ow
 changed_by_fact (what.Level level) t = record { base = Some t; wait = None; owner = None; ceiling = None }
 changed_by_fact (what.Ceiling m level) t = record { base = None; wait = None; owner = None; ceiling = Some m }
 
--- what a trace has at a point: who has each task and each mutex, and the program
-pub record View : Type 0 where
-  pub threads : List (Option ℕ)
-  pub mutexes : List (Option ℕ)
-  pub program : Program
-
--- the task that a thread is there, and the number that a mutex of the log has
-abbrev pub task_in : Context → View → ℕ → Option ℕ
-task_in context view t = held view.threads t (number_in context.numbering.now.threads t)
-
-abbrev pub mutex_in : Context → View → ℕ → Option ℕ
-mutex_in context view m = held view.mutexes m (number_in context.numbering.now.mutexes m)
-
--- what the trace that is being made has now
-abbrev pub view_of : TraceBuilder → View
-view_of builder = record {
-  threads = builder.threads.items;
-  mutexes = builder.mutexes.items;
-  program = program_at builder.pieces;
-}
-
 -- thread t begins to be task k between two points
 abbrev pub BeginsAsTask : Context → View → View → ℕ → ℕ → Type 0
 BeginsAsTask context early late t k = (task_in context early t ≡ None) × (task_in context late t ≡ Some k)
@@ -110,23 +92,26 @@ abbrev pub BeginsAsMutex : Context → View → View → ℕ → ℕ → Type 0
 BeginsAsMutex context early late m n = (mutex_in context early m ≡ None) × (mutex_in context late m ≡ Some n)
 
 -- A thread takes its task, if it hasn't. No more changes than who has this task, its base, its wait, and the owners of the
--- mutexes that it owned.
+-- mutexes that it owned. The task has nothing then.
 pub record OnlyEntersThread (context : Context) (t : ℕ) (early late : View) : Type 0 where
   pub threads : (k : ℕ) → ¬ BeginsAsTask context early late t k → nth late.threads k ≡ nth early.threads k
   pub mutexes : late.mutexes ≡ early.mutexes
   pub program :
       ChangesOnly (BeginsAsTask context early late t) (BeginsAsTask context early late t)
-      (λ n. (k : ℕ) × (owner_in early.program n ≡ Some k) × BeginsAsTask context early late t k) Nobody
+      (λ n. (k : ℕ) × (holder_in early.program.owner n ≡ Some k) × BeginsAsTask context early late t k) Nobody
       early.program late.program
+  pub anew : (k : ℕ) → BeginsAsTask context early late t k → HasNothing k late.program
 
 -- A mutex of the log takes its number, if it hasn't. No more changes than which mutex has this number, its owner, its
--- protocol, and the waits for it.
+-- protocol, and the waits for it. The number is unused then, and nobody has become an owner or begun to wait.
 pub record OnlyEntersMutex (context : Context) (m : ℕ) (early late : View) : Type 0 where
   pub mutexes : (n : ℕ) → ¬ BeginsAsMutex context early late m n → nth late.mutexes n ≡ nth early.mutexes n
   pub threads : late.threads ≡ early.threads
   pub program :
-      ChangesOnly Nobody (λ k. (n : ℕ) × (early.program.awaits k ≡ Some n) × BeginsAsMutex context early late m n)
+      ChangesOnly Nobody (λ k. (n : ℕ) × (awaits early.program k ≡ Some n) × BeginsAsMutex context early late m n)
       (BeginsAsMutex context early late m) (BeginsAsMutex context early late m) early.program late.program
+  pub anew : (n : ℕ) → BeginsAsMutex context early late m n → IsUnused n late.program
+  pub frees : OnlyFrees early.program late.program
 
 -- the fact's thread begins to be this task, by a fact that sets no level and no ceiling
 abbrev pub TaskBegins : Context → Fact → View → View → ℕ → Type 0
@@ -137,9 +122,28 @@ abbrev pub MutexBegins : Context → Fact → View → View → ℕ → Type 0
 MutexBegins context fact early late n =
     ¬ IsSetting fact.what × (m : ℕ) × (mutex_of fact.what ≡ Some m) × BeginsAsMutex context early late m n
 
+-- Whoever begins to have a number has nothing of whom had it before: what such a task owns or waits for, the owner of such a
+-- mutex and who waits for it, is by the fact.
+pub record BeginAnew (context : Context) (fact : Fact) (early late : View) : Type 0 where
+  pub owns :
+      (k n : ℕ) → TaskBegins context fact early late k → holder_in late.program.owner n ≡ Some k →
+      option_and_then (mutex_in context late) (changed_by_fact fact.what fact.thread).owner ≡ Some n
+  pub waits :
+      (k : ℕ) → TaskBegins context fact early late k →
+      (option_and_then (task_in context late) (changed_by_fact fact.what fact.thread).wait ≡ Some k)
+      ⊎ (late.program.waits k ≡ None)
+  pub owner :
+      (n : ℕ) → MutexBegins context fact early late n →
+      (option_and_then (mutex_in context late) (changed_by_fact fact.what fact.thread).owner ≡ Some n)
+      ⊎ (holder_in late.program.owner n ≡ None)
+  pub waiters :
+      (n k : ℕ) → MutexBegins context fact early late n → awaits late.program k ≡ Some n →
+      option_and_then (task_in context late) (changed_by_fact fact.what fact.thread).wait ≡ Some k
+
 -- No more changes from one point of a trace to another than what a fact changes, and of its thread and its mutex, if they
 -- begin to have a number: who has the number, the base and the wait of that task and who owns what it owned, the owner and
--- the protocol of that mutex and who waits for it.
+-- the protocol of that mutex and who waits for it. A wait that the fact begins has a later number than each before it, and
+-- whoever begins to have a number begins anew.
 pub record KeepsOthers (context : Context) (fact : Fact) (early late : View) : Type 0 where
   pub threads : (k : ℕ) → ¬ TaskBegins context fact early late k → nth late.threads k ≡ nth early.threads k
   pub mutexes : (n : ℕ) → ¬ MutexBegins context fact early late n → nth late.mutexes n ≡ nth early.mutexes n
@@ -148,8 +152,12 @@ pub record KeepsOthers (context : Context) (fact : Fact) (early late : View) : T
       ChangesOnly
       (λ k. (option_and_then (task_in context late) c.base ≡ Some k) ⊎ TaskBegins context fact early late k)
       (λ k. (option_and_then (task_in context late) c.wait ≡ Some k) ⊎ (TaskBegins context fact early late k
-      ⊎ ((n : ℕ) × (early.program.awaits k ≡ Some n) × MutexBegins context fact early late n)))
+      ⊎ ((n : ℕ) × (awaits early.program k ≡ Some n) × MutexBegins context fact early late n)))
       (λ n. (option_and_then (mutex_in context late) c.owner ≡ Some n) ⊎ (MutexBegins context fact early late n
-      ⊎ ((k : ℕ) × (owner_in early.program n ≡ Some k) × TaskBegins context fact early late k)))
+      ⊎ ((k : ℕ) × (holder_in early.program.owner n ≡ Some k) × TaskBegins context fact early late k)))
       (λ n. (option_and_then (mutex_in context late) c.ceiling ≡ Some n) ⊎ MutexBegins context fact early late n)
       early.program late.program
+  pub latest :
+      (m : ℕ) → fact.what ≡ what.Waits m →
+      HoldsOf (λ k. IfSome (late.program.waits k) (λ w. early.program.next ≤ w.ticket)) (task_in context late fact.thread)
+  pub anew : BeginAnew context fact early late

@@ -1,5 +1,6 @@
 pub mod Faults
 pub mod Showing
 pub mod Pieces
+pub mod Views
 pub mod Frames
 pub mod Shown

@@ -1,6 +1,6 @@
 -- How the pieces of a trace go on from each other.
 use Rattle.std.specs.Prelude.{◌≡◌, ◌⊎◌, ℕ, ◌+◌, ◌-◌, ◌^◌, min, List, [], ◌∷◌, ◌++◌, length, replicate, sum_by, flat_map}
-use Rattle.pim_replay.specs.Replays.{ReplayState, Continues, StaysTheSame, KeepsOrder}
+use Rattle.pim_replay.specs.Replays.{ReplayState, Continues, KeepsOrder, StaysInOrder, StaysTheSame}
 use Rattle.pim_replay.specs.declared.piece.Piece.{Piece}
 
 -- The piece begins where the one before it ends: its first steps, `restoring` of them, lead to a state with the same
@@ -56,12 +56,13 @@ abbrev pub times_of : Point → List ℕ
 times_of point = flat_map (λ piece. piece.times) point.before ++ point.piece.times
 
 -- the trace goes on from one point to another, and each further time is this one: that of each step between, where each
--- piece has a time for each of its steps
+-- piece has a time for each of its steps; queues stay in the order in which the waits began
 pub record GoesOn (time : ℕ) (p q : Point) : Type 0 where
   pub reached : Reaches p q
   pub further : ℕ
   pub times : times_of q ≡ times_of p ++ replicate further time
   pub timed : HasTimes p.piece → HasTimes q.piece
+  pub order : StaysInOrder p.piece.replay q.piece.replay
 
 -- how many steps a piece has, without those that restore a state
 abbrev pub own_steps : Piece → ℕ

@@ -1,38 +1,16 @@
 -- What a trace shows of a fact, by the numbers that threads and mutexes of the log have in it at a time.
-use Rattle.std.specs.Prelude.{◌≡◌, ◌≢◌, ◌⊎◌, ℕ, List, Option, None, Some, MatchOption, if◌then◌else◌, slice_index_or, unwrap_or}
+use Rattle.std.specs.Prelude.{◌≡◌, ◌≢◌, ◌⊎◌, ℕ, Option, None, Some, MatchOption}
 use Rattle.std.specs.Option.{option_and_then}
-use Rattle.pim_base.specs.Lists.{nth, holds}
 use Rattle.pim_base.specs.State.{IsTask, IsMutex, base_of, owner_of, protocol_of}
 use Rattle.pim_base.specs.declared.steps.Protocol.{Protocol}
 use Rattle.pim_facts.specs.declared.fact.Fact.{Fact}
 use Rattle.pim_facts.specs.declared.fact.What.{What}
 use Rattle.pim_facts.specs.declared.fact.What.TheVariants.{Granted, Waits, GaveUp, Released, Level, Ceiling}
 use Rattle.pim_replay.specs.Priorities.{priority_of}
-use Rattle.pim_replay.specs.Replays.{ReplayState, Has, program_of, awaited}
+use Rattle.pim_replay.specs.Replays.{ReplayState, Has, IsQueuedIfItMay, program_of, awaited}
+use Rattle.pim_builder.specs.Views.{mutex_now, task_now}
 use Rattle.pim_builder.specs.declared.builder.Context.{Context}
 use Rattle.pim_builder.specs.declared.builder.TraceBuilder.{TraceBuilder}
-use Rattle.pim_builder.specs.declared.numbering.Numbers.{Numbers}
-
--- the number in the trace of a thread or a mutex of the log, if it takes part
-abbrev pub number_in : Numbers → ℕ → Option ℕ
-number_in numbers one = slice_index_or numbers.of_each.items one None
-
--- who has a number of the trace now
-abbrev pub holder_in : List (Option ℕ) → ℕ → Option ℕ
-holder_in holders number = unwrap_or (nth holders number) None
-
--- the number, if there is one and this one has it now
-abbrev pub held : List (Option ℕ) → ℕ → Option ℕ → Option ℕ
-held holders one None = None
-held holders one (Some number) = if holds (holder_in holders number) one then Some number else None
-
--- the task that a thread is now
-abbrev pub task_now : Context → TraceBuilder → ℕ → Option ℕ
-task_now context builder t = held builder.threads.items t (number_in context.numbering.now.threads t)
-
--- the number that a mutex of the log has in the trace now
-abbrev pub mutex_now : Context → TraceBuilder → ℕ → Option ℕ
-mutex_now context builder m = held builder.mutexes.items m (number_in context.numbering.now.mutexes m)
 
 -- there is a number, and this holds of it
 abbrev pub HoldsOf : (ℕ → Type 0) → Option ℕ → Type 0
@@ -60,11 +38,21 @@ ShowsWhat r priority tasks mutexes (Released m next) t = HoldsOf (IsPassedOn r (
 ShowsWhat r priority tasks mutexes (Level level) t = HoldsOf (HasBase r (priority level)) (tasks t)
 ShowsWhat r priority tasks mutexes (Ceiling m level) t = HoldsOf (HasCeiling r (priority level)) (mutexes m)
 
+-- whoever begins to wait by a fact is in the queue, unless the mutex has no owner or the model refuses the wait
+abbrev pub JoinsQueueBy : ReplayState → (ℕ → Option ℕ) → (ℕ → Option ℕ) → What → ℕ → Type 0
+JoinsQueueBy r tasks mutexes what t =
+    (m : ℕ) → what ≡ Waits m → HoldsOf (λ k. HoldsOf (IsQueuedIfItMay r k) (mutexes m)) (tasks t)
+
 -- the trace shows a fact, of those that its thread and its mutex are now
 abbrev pub Shows : Context → TraceBuilder → Fact → Type 0
 Shows context builder fact =
     ShowsWhat builder.pieces.piece.replay (priority_of context.priorities.now) (task_now context builder)
     (mutex_now context builder) fact.what fact.thread
+
+-- whoever begins to wait by a fact is in the queue now, if it may
+abbrev pub Joins : Context → TraceBuilder → Fact → Type 0
+Joins context builder fact =
+    JoinsQueueBy builder.pieces.piece.replay (task_now context builder) (mutex_now context builder) fact.what fact.thread
 
 -- a level or a ceiling is set, which is in the trace only if its thread or mutex takes part by then
 abbrev pub IsSetting : What → Type 0

@@ -5,9 +5,11 @@ use Rattle.pim_base.specs.Lists.{put}
 use Rattle.pim_facts.specs.declared.fact.Fact.{Fact}
 use Rattle.pim_replay.specs.Priorities.{priority_of}
 use Rattle.pim_replay.specs.declared.piece.Piece.{Piece}
-use Rattle.pim_builder.specs.Frames.{KeepsOthers, View, program_at}
+use Rattle.pim_replay.specs.Replays.{IsInOrder}
+use Rattle.pim_builder.specs.Frames.{KeepsOthers}
 use Rattle.pim_builder.specs.Pieces.{Point, GoesOn, EndWith, HasTimes, steps_of}
-use Rattle.pim_builder.specs.Showing.{number_in, held, ShowsWhat, SetsNone}
+use Rattle.pim_builder.specs.Showing.{JoinsQueueBy, ShowsWhat, SetsNone}
+use Rattle.pim_builder.specs.Views.{View, mutex_in, number_in, program_at, task_in}
 use Rattle.pim_builder.specs.declared.builder.Appearance.{Appearance}
 use Rattle.pim_builder.specs.declared.builder.Context.{Context}
 use Rattle.pim_builder.specs.declared.builder.TraceBuilder.{TraceBuilder}
@@ -68,6 +70,7 @@ pub record Stage : Type 0 where
 pub record IsBegin (stage : Stage) : Type 0 where
   pub before : stage.point.before ≡ []
   pub steps : stage.point.piece.replay.entries ≡ []
+  pub order : IsInOrder stage.point.piece.replay
   pub times : stage.point.piece.times ≡ []
   pub appeared : stage.appeared ≡ []
 
@@ -83,21 +86,6 @@ pub record LeadsTo (time : ℕ) (early late : Stage) : Type 0 where
   pub appeared : late.appeared ≡ early.appeared ++ further
   pub between : All (AppearsBetween early.point late.point) further
 
--- the task that a thread is at a stage
-abbrev pub task_at : Context → Stage → ℕ → Option ℕ
-task_at context stage t = held (threads_after context stage.appeared) t (number_in context.numbering.now.threads t)
-
--- the number that a mutex of the log has at a stage
-abbrev pub mutex_at : Context → Stage → ℕ → Option ℕ
-mutex_at context stage m = held (mutexes_after context stage.appeared) m (number_in context.numbering.now.mutexes m)
-
--- at a stage the trace shows a fact, or that sets the level or ceiling of one who takes no part by then
-abbrev pub IsShownAt : Context → Fact → Stage → Type 0
-IsShownAt context fact stage =
-    ShowsWhat stage.point.piece.replay (priority_of context.priorities.now) (task_at context stage) (mutex_at context stage)
-    fact.what fact.thread
-    ⊎ SetsNone (task_at context stage) (mutex_at context stage) fact.what fact.thread
-
 -- who has the numbers at a stage, and the program
 abbrev pub view_at : Context → Stage → View
 view_at context stage = record {
@@ -106,13 +94,30 @@ view_at context stage = record {
   program = program_at stage.point;
 }
 
+-- the task that a thread is at a stage, and the number that a mutex of the log has
+abbrev pub task_at : Context → Stage → ℕ → Option ℕ
+task_at context stage = task_in context (view_at context stage)
+
+abbrev pub mutex_at : Context → Stage → ℕ → Option ℕ
+mutex_at context stage = mutex_in context (view_at context stage)
+
+-- at a stage the trace shows a fact, or that sets the level or ceiling of one who takes no part by then
+abbrev pub IsShownAt : Context → Fact → Stage → Type 0
+IsShownAt context fact stage =
+    ShowsWhat stage.point.piece.replay (priority_of context.priorities.now) (task_at context stage) (mutex_at context stage)
+    fact.what fact.thread
+    ⊎ SetsNone (task_at context stage) (mutex_at context stage) fact.what fact.thread
+
 -- A trace comes from its begin to this stage by these facts, the latest first: from the stage of the one before the latest,
--- or from the begin, by steps at the time of the latest, which is shown here. What this fact isn't about stays.
+-- or from the begin, by steps at the time of the latest, which is shown here. What this fact isn't about stays. Those in
+-- a queue have tickets in the order in which they began to wait; whoever begins to wait is queued, if the model allows it.
 abbrev pub AreShownBy : Context → List Dated → Stage → Type 0
 AreShownBy context [] now = IsBegin now
 AreShownBy context (latest ∷ facts) now =
     (before : Stage) × AreShownBy context facts before × LeadsTo latest.time before now × HasTimes now.point.piece
     × IsShownAt context latest.fact now × KeepsOthers context latest.fact (view_at context before) (view_at context now)
+    × IsInOrder now.point.piece.replay
+    × JoinsQueueBy now.point.piece.replay (task_at context now) (mutex_at context now) latest.fact.what latest.fact.thread
 
 -- the same of the pieces of a trace and of all who appear in it: it ends at the stage of the latest fact
 abbrev pub AreShownIn : Context → List Dated → List Piece → List Appearance → Type 0

@@ -5,9 +5,11 @@ ghost use Rattle.pim_base.specs.Lists.{holds};
 ghost use Rattle.pim_base.specs.Lists as lists;
 ghost use Rattle.pim_facts.specs.Shown.{mutex_of};
 ghost use Rattle.pim_builder.specs.Faults.{NamesNone, NamesOnly};
-ghost use Rattle.pim_builder.specs.Frames.{KeepsOthers, OnlyEntersMutex, OnlyEntersThread, view_of};
+ghost use Rattle.pim_replay.specs.Replays.{IsInOrder};
+ghost use Rattle.pim_builder.specs.Frames.{KeepsOthers, OnlyEntersMutex, OnlyEntersThread};
 ghost use Rattle.pim_builder.specs.Pieces.{AreJoined, EndWith, HasTimes};
-ghost use Rattle.pim_builder.specs.Showing.{IsSetting, SetsNone, Shows, holder_in, mutex_now, number_in, task_now};
+ghost use Rattle.pim_builder.specs.Showing.{IsSetting, Joins, SetsNone, Shows};
+ghost use Rattle.pim_builder.specs.Views.{holder_in, mutex_now, number_in, task_now, view_of};
 ghost use Rattle.pim_builder.specs.Shown.{AreShown, AreShownIn, Dated, Extends};
 
 use crate::fault::ImportFault;
@@ -103,7 +105,8 @@ impl TraceBuilder {
     /// the log contradicts itself, since a replay does what it observed.
     ///
     /// Behind the steps nothing is other than before but those whom the fact is about, those whose numbers
-    /// go to its thread or its mutex, what that task owned, and who waited for that mutex.
+    /// go to its thread or its mutex, what that task owned, and who waited for that mutex. A task that begins to wait is
+    /// in the queue, unless the mutex has no owner or the model refuses the wait.
     ///
     /// Each step that is made has the time of `now`. Who appears does so before one of these steps,
     /// or behind them.
@@ -118,6 +121,7 @@ impl TraceBuilder {
             AreShown context.now (record { fact = fact.now; time = now.now.time } ∷ facts) self.new) }
         ensures others { IfOk result (λ _.
             KeepsOthers context.now fact.now (view_of self.old) (view_of self.new)) }
+        ensures queued { IfOk result (λ _. Joins context.now self.new fact.now) }
         ensures fault { IfErr result (NamesOnly now.now.number) }
     {
         let is_used = self.make(context, fact, now)?;
@@ -157,6 +161,7 @@ impl TraceBuilder {
             (mutex_now context.now self.new) fact.now.what fact.now.thread) }
         ensures others { IfOk result (λ _.
             KeepsOthers context.now fact.now (view_of self.old) (view_of self.new)) }
+        ensures queued { IfOk result (λ _. Joins context.now self.new fact.now) }
         ensures on { IfOk result (λ _. Extends context.now now.now.time self.old self.new) }
         ensures fault { IfErr result (NamesOnly now.now.number) }
     {
@@ -175,7 +180,8 @@ impl TraceBuilder {
                     return Ok(false);
                 };
                 let ceiling = context.priorities.of_level(level);
-                self.pieces.set_ceiling(mutex, ceiling, now)?;
+                self.pieces
+                    .observe(&Observation::Ceiling(mutex, ceiling), now)?;
                 Ok(true)
             }
             What::Granted(mutex)
@@ -200,6 +206,7 @@ impl TraceBuilder {
         requires acts { ¬ IsSetting fact.now.what }
         ensures others { IfOk result (λ _.
             KeepsOthers context.now fact.now (view_of self.old) (view_of self.new)) }
+        ensures queued { IfOk result (λ _. Joins context.now self.new fact.now) }
         ensures on { IfOk result (λ _. Extends context.now now.now.time self.old self.new) }
         ensures fault { IfErr result (NamesOnly now.now.number) }
     {
@@ -213,7 +220,8 @@ impl TraceBuilder {
             What::Waits(_) => self.pieces.observe(&Observation::Waits(task, mutex), now),
             What::Released { next, .. } => {
                 let next = self.next_task(context, next);
-                self.pieces.release(task, mutex, next, now)
+                let release = Observation::Released(task, mutex, next);
+                self.pieces.observe_grant(&next, mutex, &release, now)
             }
             What::GaveUp(_) => self.pieces.observe(&Observation::GaveUp(task), now),
             What::Level(_) | What::Ceiling { .. } => unreachable!(),
@@ -270,9 +278,7 @@ impl TraceBuilder {
         let Some(number) = context.numbering.threads.of(thread) else {
             return Err(ImportFault::Contradiction(now.number));
         };
-        if holder(&self.threads, number).is_some() {
-            self.pieces.leave(TaskNo(number), now)?;
-        }
+        self.pieces.leave(TaskNo(number), now)?;
         self.admit_thread(context, thread, number)?;
         // It has its number now, unless there is no task with that, which isn't proved of the numbering.
         let Some(task) = self.task_of(context, thread) else {
@@ -439,6 +445,7 @@ fn replay_of(
     protocols: Vec<Protocol>,
 ) -> Result<Replay, ImportFault>
     ensures begin { IfOk result (λ replay. replay.entries ≡ []) }
+    ensures order { IfOk result IsInOrder }
     ensures fault { IfErr result NamesNone }
 {
     match Replay::new(alloc, bases, protocols) {

@@ -1,7 +1,7 @@
 //! The numbers that threads and mutexes have in a trace.
 ghost use Rattle.std.specs.Prelude.{IfErr, ◌≡◌};
 ghost use Rattle.pim_builder.specs.Faults.{NamesNone};
-ghost use Rattle.pim_builder.specs.Showing.{number_in};
+ghost use Rattle.pim_builder.specs.Views.{number_in};
 
 use crate::fault::ImportFault;
 use crate::participants::{Participant, Participants};

@@ -1,6 +1,6 @@
 //! The pieces of the trace as they are made.
 ghost use Rattle.std.specs.Prelude.{◌≡◌, ◌-◌, ◌++◌, [], All, IfErr, IfOk, IsTrue, length, replicate};
-ghost use Rattle.pim_replay.specs.Replays.{KeepsOrder, Observes, StaysTheSame};
+ghost use Rattle.pim_replay.specs.Replays.{IsSame, JoinsQueue, KeepsOrder, StaysTheSame, observed, program_of};
 ghost use Rattle.pim_builder.specs.Faults.{NamesOnly};
 ghost use Rattle.pim_builder.specs.Pieces.{AreJoined, EndWith, GoesOn, HasTimes, own_steps, steps_of};
 
@@ -83,7 +83,9 @@ impl Pieces {
         observation: &Observation,
         now: &Now,
     ) -> Result<(), ImportFault>
-        ensures observed { IfOk result (λ _. Observes self.old.piece.replay observation.now self.new.piece.replay) }
+        ensures observed { IfOk result (λ _.
+            IsSame (observed (program_of self.old.piece.replay) observation.now) (program_of self.new.piece.replay)) }
+        ensures queued { IfOk result (λ _. JoinsQueue observation.now self.new.piece.replay) }
         ensures on { IfOk result (λ _. GoesOn now.now.time self.old self.new) }
         ensures fault { IfErr result (NamesOnly now.now.number) }
     {

@@ -1,15 +1,11 @@
 -- What two replays have in common that are compared number by number.
-use Rattle.std.proofs.Common.{◌≡◌, ℕ, zero, suc, ◌+◌, ◌<◌, ◌≤◌, ◌⊎◌, inl, inr, List, length, Option, Some, None}
-use Rattle.std.proofs.Common.{unwrap_or, get_or, slice_get, refl, sym, ◌∙◌, ap, ap₂, arith, rules, eq-or-lt_of_le}
-use Rattle.std.specs.Option.{option_or}
+use Rattle.std.proofs.Common.{◌≡◌, ℕ, zero, suc, ◌+◌, ◌<◌, ◌≤◌, inl, inr, List, length, None}
+use Rattle.std.proofs.Common.{unwrap_or, get_or, slice_get, refl, sym, ◌∙◌, ap, arith, eq-or-lt_of_le}
 use Rattle.std.proofs.lemmas.Bool.{cases_lt}
 use Rattle.std.proofs.lemmas.List.{ext_get_or}
-use Rattle.std.proofs.lemmas.Option.{same_Some, slice_get-get_or, slice_get_past}
+use Rattle.std.proofs.lemmas.Option.{slice_get-get_or, slice_get_past}
 use Rattle.pim_base.specs.Lists.{nth}
-use Rattle.pim_base.specs.State.{State, IsState, base_of, owner_of, protocol_of, wait_of}
-use Rattle.pim_base.specs.declared.steps.Protocol.{Protocol}
-use Rattle.pim_base.specs.declared.steps.Wait.{Wait}
-use Rattle.pim_replay.specs.Replays.{ReplayState, awaited, mutex_of, outside_of}
+use Rattle.pim_replay.specs.Replays.{ReplayState, program_wait}
 
 -- f and g agree up to n
 abbrev pub AgreeTo : {X : Type 0} → (ℕ → X) → (ℕ → X) → ℕ → Type 0
@@ -43,28 +39,26 @@ pub nth-past : {X : Type 0} (xs : List X) (n : ℕ) → length xs < n → nth xs
 nth-past xs zero h = absurd (omega arith)
 nth-past xs (suc i) h = slice_get_past xs i (omega arith)
 
-awaited-past : (r : ReplayState) (t : ℕ) → IsState r.state → length r.outside ≡ length r.state.base → length r.state.base < t → awaited r t ≡ None
-awaited-past r t lists outside past =
-    ap₂ option_or
-    (ap (λ o. mutex_of (unwrap_or o None)) (nth-past r.state.wait t (omega (arith, lists.waits))))
-    (ap (λ o. mutex_of (unwrap_or o None)) (nth-past r.outside t (omega (arith, outside))))
-
-awaited-zero : (r : ReplayState) → awaited r 0 ≡ None
-awaited-zero r = refl
+program_wait-past :
+    (r : ReplayState) (t : ℕ)
+    → length r.waits ≡ length r.state.base
+    → length r.state.base < t
+    → program_wait r t ≡ None
+program_wait-past r t waits past = ap (λ o. unwrap_or o None) (nth-past r.waits t (omega (arith, waits, past)))
 
 -- so all tasks wait for the same if those do that there are
 pub same_waits :
     (r s : ReplayState)
-    → IsState r.state
-    → IsState s.state
-    → length r.outside ≡ length r.state.base
-    → length s.outside ≡ length s.state.base
+    → length r.waits ≡ length r.state.base
+    → length s.waits ≡ length s.state.base
     → length r.state.base ≡ length s.state.base
-    → AgreeTo (awaited r) (awaited s) (length r.state.base)
+    → AgreeTo (program_wait r) (program_wait s) (length r.state.base)
     → (t : ℕ)
-    → awaited r t ≡ awaited s t
-same_waits r s lists_r lists_s outside_r outside_s tasks agree zero = awaited-zero r ∙ sym (awaited-zero s)
-same_waits r s lists_r lists_s outside_r outside_s tasks agree (suc i) = elim (cases_lt (length r.state.base) (suc i)) [
-  | inl past ↦ awaited-past r (suc i) lists_r outside_r past ∙ sym (awaited-past s (suc i) lists_s outside_s (omega (arith, tasks, past)))
+    → program_wait r t ≡ program_wait s t
+same_waits r s waits_r waits_s tasks agree zero = refl
+same_waits r s waits_r waits_s tasks agree (suc i) = elim (cases_lt (length r.state.base) (suc i)) [
+  | inl past ↦
+      program_wait-past r (suc i) waits_r past
+      ∙ sym (program_wait-past s (suc i) waits_s (omega (arith, tasks, past)))
   | inr known ↦ agree (suc i) (omega arith) known
 ]

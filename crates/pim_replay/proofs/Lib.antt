@@ -2,6 +2,8 @@ pub mod SharingLemmas
 pub mod CrowdedLemmas
 pub mod Replaying
 pub mod Stopping
+pub mod Queueing
+pub mod Staying
 pub mod PriorityLemmas
 pub mod Comparing
 pub mod Ordering

@@ -1,18 +1,18 @@
 -- What the steps of a replay make of the program.
-use Rattle.std.proofs.Common.{◌≡◌, ◌≢◌, ◌≤◌, ◌+◌, ◌⊎◌, arith, ◌&&◌, ℕ, zero, suc, List, ◌++◌, ◌∷◌, [], length}
+use Rattle.std.proofs.Common.{◌≡◌, ◌≢◌, ◌≤◌, ◌+◌, arith, ◌&&◌, ℕ, zero, suc, List, ◌++◌, ◌∷◌, [], length}
 use Rattle.std.proofs.Common.{Bool, true, false, not, is_some, cond, eqb, Option, Some, None, unwrap_or, slice_get}
-use Rattle.std.proofs.Common.{set, refl, sym, ◌∙◌, ap, ap₂, subst, inl, inr}
-use Rattle.std.specs.Option.{option_or}
+use Rattle.std.proofs.Common.{set, refl, sym, ◌∙◌, ap, subst, inl, inr}
 use Rattle.std.proofs.lemmas.Bool.{cases_eq, eq-eqb, ne_eqb}
 use Rattle.std.proofs.lemmas.Option.{none-some, same_Some}
 use Rattle.pim_base.specs.Lists.{nth, put, holds}
-use Rattle.pim_base.specs.State.{State, IsState, IsTask, owner_of, wait_of, protocol_of, count_of, is_recursive}
+use Rattle.pim_base.specs.State.{State, IsTask, owner_of, wait_of, protocol_of, count_of, is_recursive}
 use Rattle.pim_base.specs.State.{with_owner, with_count, with_wait, queued}
 use Rattle.pim_base.specs.Checks.{unknown_task, unknown_mutex, is_waiting}
 use Rattle.pim_base.specs.Queues.{first_of}
 use Rattle.pim_base.specs.Runs.{IsRun}
 use Rattle.pim_base.specs.Steps.{unless, answer, served, handed, is_kept, reply_of, after, after_reply, hand_over_to}
 use Rattle.pim_base.specs.declared.steps.Op.{Op}
+use Rattle.pim_base.specs.declared.steps.Protocol.{Protocol}
 use Rattle.pim_base.specs.declared.steps.Step.{Step}
 use Rattle.pim_base.specs.declared.steps.Entry.{Entry}
 use Rattle.pim_base.specs.declared.steps.Refusal.{Refusal}
@@ -20,12 +20,12 @@ use Rattle.pim_base.specs.declared.steps.Reply.{Reply}
 use Rattle.pim_base.specs.declared.steps.Wait.{Wait}
 use Rattle.pim_base.specs.declared.steps.Waiter.{Waiter}
 use Rattle.pim_base.proofs.Kept.{known_from_tests}
-use Rattle.pim_base.proofs.NoCycle.{idle_now, unwrap_or-put_same}
+use Rattle.pim_base.proofs.NoCycle.{unwrap_or-put_same}
 use Rattle.pim_base.proofs.Places.{nth-put_same, nth-put_other}
 use Rattle.pim_base.proofs.Prefixes.{prefix_self, prefix_trans}
-use Rattle.pim_replay.specs.Replays.{ReplayState, Program, program_of, IsSame, Continues, lock, unlock, cancel}
-use Rattle.pim_replay.specs.Replays.{IsRefused, awaited, outside_of, mutex_of, with_step, with_outside, with_wait_for}
-use Rattle.pim_replay.specs.Replays.{given, observed}
+use Rattle.pim_replay.specs.Replays.{ReplayState, Program, program_of, program_wait, IsSame, Continues, lock, unlock, cancel}
+use Rattle.pim_replay.specs.Replays.{IsRefused, IsRefusedWait, IsQueued, mutex_of, awaits, begun, without_wait, with_step, given, observed}
+use Rattle.pim_replay.specs.Replays.{waiting_for, with_next_wait, with_wait as with_program_wait}
 use Rattle.pim_replay.specs.declared.observation.Observation.TheVariants.{Base, Ceiling}
 
 -- ---- what a reply says
@@ -44,18 +44,11 @@ idle_asks S t m r e known idle = go (unknown_task S t) (wait_of S t) e
     go false None e = refl
     go false (Some w) e = absurd (idle (sym e))
 
-known_asks : (S : State) (t m : ℕ) (r : Reply) → reply_of S (lock t m) ≡ r → r ≢ Reply.Refused Refusal.NoTask → IsTask S t
+pub known_asks : (S : State) (t m : ℕ) (r : Reply) → reply_of S (lock t m) ≡ r → r ≢ Reply.Refused Refusal.NoTask → IsTask S t
 known_asks S t m r e known = known_from_tests S t (go (unknown_task S t) refl e)
   where
     go : (b : Bool) → unknown_task S t ≡ b → unless ((b, Refusal.NoTask) ∷ (is_waiting S t && true, Refusal.Waiting) ∷ []) (answer S t (Op.Lock m)) ≡ r → unknown_task S t ≡ false
     go true is e = absurd (known (sym e))
-    go false is e = is
-
-known_cancels : (S : State) (t : ℕ) → reply_of S (cancel t) ≡ Reply.Withdrawn → IsTask S t
-known_cancels S t e = known_from_tests S t (go (unknown_task S t) refl e)
-  where
-    go : (b : Bool) → unknown_task S t ≡ b → unless ((b, Refusal.NoTask) ∷ (is_waiting S t && not (eqb t t), Refusal.Waiting) ∷ []) (answer S t (Op.Cancel t)) ≡ Reply.Withdrawn → unknown_task S t ≡ false
-    go true is e = absurd (cc e)
     go false is e = is
 
 not_held : (o : Option ℕ) (t : ℕ) → (o ≡ Some t → ⊥) → holds o t ≡ false
@@ -125,12 +118,14 @@ pub refused :
     → reply_of S (lock t m) ≡ Reply.Refused refusal
     → refusal ≢ Refusal.NoTask
     → refusal ≢ Refusal.Waiting
+    → IsRefusedWait S t m
     → IsRefused S t m
-refused S t m refusal e known idle =
+refused S t m refusal e known idle why =
     let is_not : (other : Refusal) → refusal ≢ other → Reply.Refused refusal ≢ Reply.Refused other = λ other ne is. ne (cc is) in
     record {
       known = known_asks S t m (Reply.Refused refusal) e (is_not Refusal.NoTask known);
       idle = idle_asks S t m (Reply.Refused refusal) e (is_not Refusal.NoTask known) (is_not Refusal.Waiting idle);
+      refused = why;
       unchanged = ap (after_reply S t (Op.Lock m)) e;
     }
 
@@ -146,50 +141,65 @@ no_mutex (Some w) e = absurd (none-some w.mutex (sym e))
 -- ---- what a program has
 
 pub same_refl : (p : Program) → IsSame p p
-same_refl p = record { owner = refl; awaits = λ t. refl; base = refl; protocol = refl }
+same_refl p = record { owner = refl; waits = λ t. refl; base = refl; protocol = refl; next = refl }
 
 pub same_trans : (p q r : Program) → IsSame p q → IsSame q r → IsSame p r
 same_trans p q r a b = record {
   owner = b.owner ∙ a.owner;
-  awaits = λ t. b.awaits t ∙ a.awaits t;
+  waits = λ t. b.waits t ∙ a.waits t;
   base = b.base ∙ a.base;
   protocol = b.protocol ∙ a.protocol;
+  next = b.next ∙ a.next;
 }
 
 pub same_given : (p q : Program) (m : ℕ) (o : Option ℕ) → IsSame p q → IsSame (given p m o) (given q m o)
 same_given p q m None a = record {
   owner = ap (λ os. put os m None) a.owner;
-  awaits = a.awaits;
+  waits = a.waits;
   base = a.base;
   protocol = a.protocol;
+  next = a.next;
 }
 same_given p q m (Some t) a = record {
   owner = ap (λ os. put os m (Some t)) a.owner;
-  awaits = λ u. ap (λ o. cond (eqb u t) None o) (a.awaits u);
+  waits = λ u. ap (λ o. cond (eqb u t) None o) (a.waits u);
   base = a.base;
   protocol = a.protocol;
+  next = a.next;
 }
 
--- a task waits for this now, and all others for what they did
-pub awaits_now :
-    (r s : ReplayState) (t : ℕ) (o : Option ℕ)
-    → awaited s t ≡ o
-    → ((u : ℕ) → t ≢ u → wait_of s.state u ≡ wait_of r.state u)
-    → ((u : ℕ) → t ≢ u → outside_of s u ≡ outside_of r u)
-    → (u : ℕ)
-    → awaited s u ≡ cond (eqb u t) o (awaited r u)
-awaits_now r s t o here queues beside u = elim (cases_eq u t) [
-  | inl is ↦ rw (eq-eqb u t is) (ap (awaited s) is ∙ here)
-  | inr ne ↦ rw (ne_eqb u t ne) (kept (queues u (λ is. ne (sym is))) (beside u (λ is. ne (sym is))))
-]
-  where
-    kept : wait_of s.state u ≡ wait_of r.state u → outside_of s u ≡ outside_of r u → awaited s u ≡ awaited r u
-    kept queue outside = ap₂ (λ a b. option_or (mutex_of a) (mutex_of b)) queue outside
+-- the same tasks wait for the mutex
+pub same_awaits : (p q : Program) (t : ℕ) → IsSame p q → awaits q t ≡ awaits p t
+same_awaits p q t is = ap mutex_of (is.waits t)
 
--- ---- what a step and a wait outside of the queues make of the program
+-- so the next owner of a mutex waits for it or not
+pub same_waiting_for : (p q : Program) (m : ℕ) (o : Option ℕ) → IsSame p q → waiting_for q m o ≡ waiting_for p m o
+same_waiting_for p q m None is = refl
+same_waiting_for p q m (Some t) is = ap (λ x. cond (holds x m) (Some t) None) (same_awaits p q t is)
+
+-- and the same is released
+pub same_released :
+    (p q : Program) (m : ℕ) (o : Option ℕ)
+    → IsSame p q
+    → IsSame (given p m (waiting_for p m o)) (given q m (waiting_for q m o))
+same_released p q m o is =
+    subst (λ (x : Option ℕ). IsSame (given p m (waiting_for p m o)) (given q m x)) (sym (same_waiting_for p q m o is))
+    (same_given p q m (waiting_for p m o) is)
+
+-- or given a ceiling
+pub same_ceiling : (p q : Program) (m level : ℕ) → IsSame p q → IsSame (observed p (Ceiling m level)) (observed q (Ceiling m level))
+same_ceiling p q m level is = record {
+  owner = is.owner;
+  waits = is.waits;
+  base = is.base;
+  protocol = ap (λ ps. put ps m (Protocol.Protect level)) is.protocol;
+  next = is.next;
+}
+
+-- ---- what a step and a wait make of the program
 
 -- the wait of a task is what was put there, if there is such a task
-wait_put : (xs : List (Option Wait)) (t : ℕ) (o : Option Wait) → 1 ≤ t → t ≤ length xs → unwrap_or (nth (put xs t o) t) None ≡ o
+pub wait_put : (xs : List (Option Wait)) (t : ℕ) (o : Option Wait) → 1 ≤ t → t ≤ length xs → unwrap_or (nth (put xs t o) t) None ≡ o
 wait_put xs t o low high = ap (λ x. unwrap_or x None) (nth-put_same xs t o low high)
 
 pub none_put : (xs : List (Option Wait)) (t : ℕ) → unwrap_or (nth (put xs t None) t) None ≡ None
@@ -198,26 +208,48 @@ none_put xs t = elim (unwrap_or-put_same xs t None) [ inl h ↦ h | inr h ↦ h 
 pub other_put : (xs : List (Option Wait)) (t u : ℕ) (o : Option Wait) → t ≢ u → unwrap_or (nth (put xs t o) u) None ≡ unwrap_or (nth xs u) None
 other_put xs t u o ne = ap (λ x. unwrap_or x None) (nth-put_other xs t u o ne)
 
+-- a task has this wait now, and all others have what they had
+waits_put :
+    (xs : List (Option Wait)) (t : ℕ) (o : Option Wait)
+    → unwrap_or (nth (put xs t o) t) None ≡ o
+    → (u : ℕ)
+    → unwrap_or (nth (put xs t o) u) None ≡ cond (eqb u t) o (unwrap_or (nth xs u) None)
+waits_put xs t o here u = elim (cases_eq u t) [
+  | inl is ↦ rw (eq-eqb u t is) (ap (λ v. unwrap_or (nth (put xs t o) v) None) is ∙ here)
+  | inr ne ↦ rw (ne_eqb u t ne) (other_put xs t u o (λ is. ne (sym is)))
+]
+
+-- a mutex is a task's, which stops waiting
+pub given_same :
+    (r s : ReplayState) (t m : ℕ)
+    → s.state.owner ≡ put r.state.owner m (Some t)
+    → s.state.base ≡ r.state.base
+    → s.state.protocol ≡ r.state.protocol
+    → s.waits ≡ put r.waits t None
+    → s.next ≡ r.next
+    → IsSame (given (program_of r) m (Some t)) (program_of s)
+given_same r s t m owner base protocol waits next = record {
+  owner = owner;
+  base = base;
+  protocol = protocol;
+  next = next;
+  waits = λ u. ap (λ (xs : List (Option Wait)). unwrap_or (nth xs u) None) waits ∙ waits_put r.waits t None (none_put r.waits t) u;
+}
+
 -- a task is granted a mutex that it didn't own
 pub granted_same :
-    (r : ReplayState) (t m : ℕ)
+    (r q s : ReplayState) (t m : ℕ)
     → reply_of r.state (lock t m) ≡ Reply.Granted
     → (owner_of r.state m ≡ Some t → ⊥)
-    → IsSame (given (program_of r) m (Some t)) (program_of (with_outside (with_step r (lock t m)) t None))
-granted_same r t m e other =
-    let S : State = r.state in
-    let is : after S (lock t m) ≡ with_owner S m (Some t) = granted_owner S t m e other in
-    let idle : wait_of S t ≡ None = idle_asks S t m Reply.Granted e (λ no. absurd (cc no)) (λ no. absurd (cc no)) in
-    record {
-      owner = ap (λ (T : State). T.owner) is;
-      base = ap (λ (T : State). T.base) is;
-      protocol = ap (λ (T : State). T.protocol) is;
-      awaits =
-          awaits_now r (with_outside (with_step r (lock t m)) t None) t None
-          (ap₂ (λ a b. option_or (mutex_of a) (mutex_of b)) (ap (λ T. wait_of T t) is ∙ idle) (none_put r.outside t))
-          (λ u ne. ap (λ T. wait_of T u) is)
-          (λ u ne. other_put r.outside t u None ne);
-    }
+    → q ≡ with_step r (lock t m)
+    → s ≡ without_wait q t
+    → IsSame (given (program_of r) m (Some t)) (program_of s)
+granted_same r q s t m e other step ended =
+    let is : after r.state (lock t m) ≡ with_owner r.state m (Some t) = granted_owner r.state t m e other in
+    let P : ReplayState → Type 0 = λ x. IsSame (given (program_of r) m (Some t)) (program_of x) in
+    subst P (sym (ended ∙ ap (λ x. without_wait x t) step))
+    (given_same r (without_wait (with_step r (lock t m)) t) t m
+    (ap (λ (T : State). T.owner) is) (ap (λ (T : State). T.base) is) (ap (λ (T : State). T.protocol) is) refl refl)
 
 put_same : {X : Type 0} (xs : List X) (i : ℕ) (x : X) → slice_get xs i ≡ Some x → xs ≡ set xs i x
 put_same [] i x e = refl
@@ -234,175 +266,141 @@ owner_put xs (suc i) t e = put_same xs i (Some t) (go (slice_get xs i) e)
 
 -- a task owns a mutex already that is granted to it
 pub owned_same :
-    (r : ReplayState) (t m : ℕ)
+    (r s : ReplayState) (t m : ℕ)
     → owner_of r.state m ≡ Some t
-    → wait_of r.state t ≡ None
-    → IsSame (given (program_of r) m (Some t)) (program_of (with_outside r t None))
-owned_same r t m owns idle = record {
-  owner = owner_put r.state.owner m t owns;
-  base = refl;
-  protocol = refl;
-  awaits =
-      awaits_now r (with_outside r t None) t None
-      (ap₂ (λ a b. option_or (mutex_of a) (mutex_of b)) idle (none_put r.outside t))
-      (λ u ne. refl)
-      (λ u ne. other_put r.outside t u None ne);
-}
+    → s ≡ without_wait r t
+    → IsSame (given (program_of r) m (Some t)) (program_of s)
+owned_same r s t m owns ended =
+    let P : ReplayState → Type 0 = λ x. IsSame (given (program_of r) m (Some t)) (program_of x) in
+    subst P (sym ended) (given_same r (without_wait r t) t m (owner_put r.state.owner m t owns) refl refl refl refl)
 
-queued_wait :
-    (S : State) (t m : ℕ)
-    → IsState S
-    → reply_of S (lock t m) ≡ Reply.Queued
-    → wait_of (queued S t m) t ≡ Some (record { mutex = m; ticket = S.next })
-queued_wait S t m lists e =
-    let known : IsTask S t = known_asks S t m Reply.Queued e (λ no. absurd (cc no)) in
-    wait_put S.wait t (Some (record { mutex = m; ticket = S.next })) known.0 (omega (arith, known.1, lists.waits))
+-- a step after which each mutex has its owner, each task its base and each mutex its protocol leaves the program
+pub step_same :
+    (r s : ReplayState) (step : Step) (T : State)
+    → s ≡ with_step r step
+    → after r.state step ≡ T
+    → T.owner ≡ r.state.owner
+    → T.base ≡ r.state.base
+    → T.protocol ≡ r.state.protocol
+    → IsSame (program_of r) (program_of s)
+step_same r s step T made is owner base protocol =
+    let P : ReplayState → Type 0 = λ x. IsSame (program_of r) (program_of x) in
+    subst P (sym made)
+    (record {
+      owner = ap (λ (S : State). S.owner) is ∙ owner;
+      base = ap (λ (S : State). S.base) is ∙ base;
+      protocol = ap (λ (S : State). S.protocol) is ∙ protocol;
+      waits = λ u. refl;
+      next = refl;
+    })
 
--- a task joins the queue of a mutex
-pub queued_same :
-    (r : ReplayState) (t m : ℕ)
-    → IsState r.state
-    → reply_of r.state (lock t m) ≡ Reply.Queued
-    → IsSame (with_wait_for (program_of r) t (Some m)) (program_of (with_step r (lock t m)))
-queued_same r t m lists e =
-    let S : State = r.state in
-    let is : after S (lock t m) ≡ queued S t m = ap (after_reply S t (Op.Lock m)) e in
-    record {
-      owner = ap (λ (T : State). T.owner) is;
-      base = ap (λ (T : State). T.base) is;
-      protocol = ap (λ (T : State). T.protocol) is;
-      awaits =
-          awaits_now r (with_step r (lock t m)) t (Some m)
-          (ap (λ o. option_or (mutex_of o) (mutex_of (outside_of r t))) (ap (λ T. wait_of T t) is ∙ queued_wait S t m lists e))
-          (λ u ne. ap (λ T. wait_of T u) is ∙ other_put S.wait t u (Some (record { mutex = m; ticket = S.next })) ne)
-          (λ u ne. refl);
-    }
-
--- a refused wait changes nothing
-pub refused_same :
-    (r : ReplayState) (t m : ℕ)
-    → IsRefused r.state t m
-    → IsSame (program_of r) (program_of (with_step r (lock t m)))
-refused_same r t m still = record {
-  owner = ap (λ (T : State). T.owner) still.unchanged;
-  base = ap (λ (T : State). T.base) still.unchanged;
-  protocol = ap (λ (T : State). T.protocol) still.unchanged;
-  awaits = λ u. ap (λ T. option_or (mutex_of (wait_of T u)) (mutex_of (outside_of r u))) still.unchanged;
-}
-
--- a task that is in no queue waits outside of them
-pub outside_same :
-    (r : ReplayState) (t : ℕ) (w : Wait)
-    → wait_of r.state t ≡ None
-    → outside_of (with_outside r t (Some w)) t ≡ Some w
-    → IsSame (with_wait_for (program_of r) t (Some w.mutex)) (program_of (with_outside r t (Some w)))
-outside_same r t w idle there = record {
-  owner = refl;
-  base = refl;
-  protocol = refl;
-  awaits =
-      awaits_now r (with_outside r t (Some w)) t (Some w.mutex)
-      (ap₂ (λ a b. option_or (mutex_of a) (mutex_of b)) idle there)
-      (λ u ne. refl)
-      (λ u ne. other_put r.outside t u (Some w) ne);
-}
-
--- a task that is in no queue waits no longer
-pub idle_same :
-    (r : ReplayState) (t : ℕ)
-    → wait_of r.state t ≡ None
-    → IsSame (with_wait_for (program_of r) t None) (program_of (with_outside r t None))
-idle_same r t idle = record {
-  owner = refl;
-  base = refl;
-  protocol = refl;
-  awaits =
-      awaits_now r (with_outside r t None) t None
-      (ap₂ (λ a b. option_or (mutex_of a) (mutex_of b)) idle (none_put r.outside t))
-      (λ u ne. refl)
-      (λ u ne. other_put r.outside t u None ne);
-}
+-- a task joins its queue, or isn't let in
+pub asked_same : (r s : ReplayState) (t m : ℕ) (b : Bool) → IsQueued r t m b s → IsSame (program_of r) (program_of s)
+asked_same r s t m true queue =
+    step_same r s (lock t m) (queued r.state t m) queue.0 (ap (after_reply r.state t (Op.Lock m)) queue.2) refl refl refl
+asked_same r s t m false queue = step_same r s (lock t m) r.state queue.0 queue.2.unchanged refl refl refl
 
 -- a task leaves its queue
-pub withdrawn :
-    (r : ReplayState) (t : ℕ)
+pub withdrawn_same :
+    (r s : ReplayState) (t : ℕ)
     → reply_of r.state (cancel t) ≡ Reply.Withdrawn
-    → (wait_of (with_step r (cancel t)).state t ≡ None) × IsSame (with_wait_for (program_of r) t (mutex_of (outside_of r t))) (program_of (with_step r (cancel t)))
-withdrawn r t e =
-    let S : State = r.state in
-    let is : after S (cancel t) ≡ with_wait S t None = ap (after_reply S t (Op.Cancel t)) e in
-    let idle : wait_of (after S (cancel t)) t ≡ None = ap (λ T. wait_of T t) is ∙ idle_now S t in (
-      idle,
-      record {
-        owner = ap (λ (T : State). T.owner) is;
-        base = ap (λ (T : State). T.base) is;
-        protocol = ap (λ (T : State). T.protocol) is;
-        awaits =
-            awaits_now r (with_step r (cancel t)) t (mutex_of (outside_of r t))
-            (ap (λ o. option_or (mutex_of o) (mutex_of (outside_of r t))) idle)
-            (λ u ne. ap (λ T. wait_of T u) is ∙ other_put S.wait t u None ne)
-            (λ u ne. refl);
-      },
-    )
+    → s ≡ with_step r (cancel t)
+    → IsSame (program_of r) (program_of s)
+withdrawn_same r s t e made =
+    step_same r s (cancel t) (with_wait r.state t None) made (ap (after_reply r.state t (Op.Cancel t)) e) refl refl refl
 
--- what a task waits for is replaced
-pub again_same : (p q : Program) (t : ℕ) (a b : Option ℕ) → IsSame (with_wait_for p t a) q → IsSame (with_wait_for p t b) (with_wait_for q t b)
-again_same p q t a b is = record {
-  owner = is.owner;
-  base = is.base;
-  protocol = is.protocol;
-  awaits = λ u. go u (cases_eq u t);
-}
-  where
-    go : (u : ℕ) → (u ≡ t) ⊎ (u ≢ t) → cond (eqb u t) b (q.awaits u) ≡ cond (eqb u t) b (p.awaits u)
-    go u (inl here) = rw (eq-eqb u t here) refl
-    go u (inr ne) = let at : q.awaits u ≡ cond (eqb u t) a (p.awaits u) = is.awaits u in rw (ne_eqb u t ne) (rw (ne_eqb u t ne) at at)
+-- a task stops waiting
+pub ended_same : (r s : ReplayState) (t : ℕ) → s ≡ without_wait r t → IsSame (with_program_wait (program_of r) t None) (program_of s)
+ended_same r s t ended =
+    let P : ReplayState → Type 0 = λ x. IsSame (with_program_wait (program_of r) t None) (program_of x) in
+    subst P (sym ended)
+    (record {
+      owner = refl;
+      base = refl;
+      protocol = refl;
+      next = refl;
+      waits = waits_put r.waits t None (none_put r.waits t);
+    })
 
--- a task that waits for this does so still
-pub kept_same : (p : Program) (t : ℕ) (o : Option ℕ) → p.awaits t ≡ o → IsSame p (with_wait_for p t o)
-kept_same p t o here = record {
-  owner = refl;
-  base = refl;
-  protocol = refl;
-  awaits = λ u. go u (cases_eq u t);
-}
-  where
-    go : (u : ℕ) → (u ≡ t) ⊎ (u ≢ t) → cond (eqb u t) o (p.awaits u) ≡ p.awaits u
-    go u (inl is) = rw (eq-eqb u t is) (sym (ap p.awaits is ∙ here))
-    go u (inr ne) = rw (ne_eqb u t ne) refl
+-- and it stopped before it left its queue
+pub same_ended :
+    (p q r : Program) (t : ℕ)
+    → IsSame p q
+    → IsSame (with_program_wait q t None) r
+    → IsSame (with_program_wait p t None) r
+same_ended p q r t a b =
+    same_trans (with_program_wait p t None) (with_program_wait q t None) r
+    (record {
+      owner = a.owner;
+      base = a.base;
+      protocol = a.protocol;
+      next = a.next;
+      waits = λ u. ap (λ o. cond (eqb u t) None o) (a.waits u);
+    })
+    b
+
+-- a task begins to wait
+pub begun_same :
+    (r s : ReplayState) (t m : ℕ)
+    → IsTask r.state t
+    → length r.waits ≡ length r.state.base
+    → s ≡ begun r t m
+    → IsSame (with_next_wait (program_of r) t m) (program_of s)
+begun_same r s t m known tasks begins =
+    let w : Wait = record { mutex = m; ticket = r.next } in
+    let P : ReplayState → Type 0 = λ x. IsSame (with_next_wait (program_of r) t m) (program_of x) in
+    subst P (sym begins)
+    (record {
+      owner = refl;
+      base = refl;
+      protocol = refl;
+      next = refl;
+      waits = waits_put r.waits t (Some w) (wait_put r.waits t (Some w) known.0 (omega (arith, known.1, tasks)));
+    })
+
+-- then it waits for that
+pub begun_awaits :
+    (r s : ReplayState) (t m : ℕ)
+    → IsTask r.state t
+    → length r.waits ≡ length r.state.base
+    → s ≡ begun r t m
+    → program_wait s t ≡ Some (record { mutex = m; ticket = r.next })
+begun_awaits r s t m known tasks begins =
+    let w : Wait = record { mutex = m; ticket = r.next } in
+    ap (λ x. program_wait x t) begins ∙ wait_put r.waits t (Some w) known.0 (omega (arith, known.1, tasks))
 
 -- a mutex is freed
 pub freed_same :
-    (r : ReplayState) (t m : ℕ)
+    (r s : ReplayState) (t m : ℕ)
     → reply_of r.state (unlock t m) ≡ Reply.Freed
-    → IsSame (given (program_of r) m None) (program_of (with_step r (unlock t m)))
-freed_same r t m e =
+    → s ≡ with_step r (unlock t m)
+    → IsSame (given (program_of r) m None) (program_of s)
+freed_same r s t m e made =
     let is : after r.state (unlock t m) ≡ with_owner r.state m None = freed_owner r.state t m e in
-    record {
+    let P : ReplayState → Type 0 = λ x. IsSame (given (program_of r) m None) (program_of x) in
+    subst P (sym made)
+    (record {
       owner = ap (λ (T : State). T.owner) is;
       base = ap (λ (T : State). T.base) is;
       protocol = ap (λ (T : State). T.protocol) is;
-      awaits = λ u. ap (λ T. option_or (mutex_of (wait_of T u)) (mutex_of (outside_of r u))) is;
-    }
+      waits = λ u. refl;
+      next = refl;
+    })
 
 -- a mutex is handed over
 pub handed_same :
-    (r : ReplayState) (t m u : ℕ)
+    (r q s : ReplayState) (t m u : ℕ)
     → reply_of r.state (unlock t m) ≡ Reply.Handed u
-    → IsSame (given (program_of r) m (Some u)) (program_of (with_outside (with_step r (unlock t m)) u None))
-handed_same r t m u e =
+    → q ≡ with_step r (unlock t m)
+    → s ≡ without_wait q u
+    → IsSame (given (program_of r) m (Some u)) (program_of s)
+handed_same r q s t m u e step ended =
     let S : State = r.state in
     let is : after S (unlock t m) ≡ with_wait (with_owner S m (Some u)) u None = handed_owner S t m u e in
-    record {
-      owner = ap (λ (T : State). T.owner) is;
-      base = ap (λ (T : State). T.base) is;
-      protocol = ap (λ (T : State). T.protocol) is;
-      awaits =
-          awaits_now r (with_outside (with_step r (unlock t m)) u None) u None
-          (ap₂ (λ a b. option_or (mutex_of a) (mutex_of b)) (ap (λ T. wait_of T u) is ∙ none_put S.wait u) (none_put r.outside u))
-          (λ v ne. ap (λ T. wait_of T v) is ∙ other_put S.wait u v None ne)
-          (λ v ne. other_put r.outside u v None ne);
-    }
+    let P : ReplayState → Type 0 = λ x. IsSame (given (program_of r) m (Some u)) (program_of x) in
+    subst P (sym (ended ∙ ap (λ x. without_wait x u) step))
+    (given_same r (without_wait (with_step r (unlock t m)) u) u m
+    (ap (λ (T : State). T.owner) is) (ap (λ (T : State). T.base) is) (ap (λ (T : State). T.protocol) is) refl refl)
 
 put_twice : {X : Type 0} (xs : List X) (n : ℕ) (x y : X) → put (put xs n x) n y ≡ put xs n y
 put_twice xs zero x y = refl
@@ -415,12 +413,13 @@ put_twice (z ∷ zs) (suc i) x y = set_twice (z ∷ zs) i x y
     set_twice (z ∷ zs) (suc i) x y = ap (λ ws. z ∷ ws) (set_twice zs i x y)
 
 -- a mutex is freed, and then given
-pub given_twice : (p q : Program) (m t : ℕ) → IsSame (given p m None) q → IsSame (given p m (Some t)) (given q m (Some t))
+given_twice : (p q : Program) (m t : ℕ) → IsSame (given p m None) q → IsSame (given p m (Some t)) (given q m (Some t))
 given_twice p q m t is = record {
   owner = ap (λ os. put os m (Some t)) is.owner ∙ put_twice p.owner m None (Some t);
   base = is.base;
   protocol = is.protocol;
-  awaits = λ u. ap (λ o. cond (eqb u t) None o) (is.awaits u);
+  next = is.next;
+  waits = λ u. ap (λ o. cond (eqb u t) None o) (is.waits u);
 }
 
 -- nobody owns a mutex that was freed
@@ -430,177 +429,55 @@ freed_free r t m u e owns =
     let free : owner_of (with_owner r.state m None) m ≡ None = elim (unwrap_or-put_same r.state.owner m None) [ inl h ↦ h | inr h ↦ h ] in
     absurd (none-some u (sym (ap (λ T. owner_of T m) is ∙ free) ∙ owns))
 
--- ---- what each call of a replay makes of the program
-
-pub same_wait_for : (p q : Program) (t : ℕ) (o : Option ℕ) → IsSame p q → IsSame (with_wait_for p t o) (with_wait_for q t o)
-same_wait_for p q t o is = record {
-  owner = is.owner;
-  base = is.base;
-  protocol = is.protocol;
-  awaits = λ u. ap (λ x. cond (eqb u t) o x) (is.awaits u);
-}
-
--- a refused wait is kept outside of the queues
-pub refused_outside :
-    (r : ReplayState) (t : ℕ) (w : Wait)
-    → IsRefused r.state t w.mutex
-    → (IsTask (with_step r (lock t w.mutex)).state t → outside_of (with_outside (with_step r (lock t w.mutex)) t (Some w)) t ≡ Some w)
-    → IsSame (with_wait_for (program_of r) t (Some w.mutex)) (program_of (with_outside (with_step r (lock t w.mutex)) t (Some w)))
-refused_outside r t w still there =
-    let q : ReplayState = with_step r (lock t w.mutex) in
-    let P : State → Type 0 = λ T. IsTask T t in
-    same_trans (with_wait_for (program_of r) t (Some w.mutex)) (with_wait_for (program_of q) t (Some w.mutex)) (program_of (with_outside q t (Some w)))
-    (same_wait_for (program_of r) (program_of q) t (Some w.mutex) (refused_same r t w.mutex still))
-    (outside_same q t w (ap (λ T. wait_of T t) still.unchanged ∙ still.idle) (there (subst P (sym still.unchanged) still.known)))
-
--- a task stops waiting, in a queue or outside
-pub gave_up_same :
-    (r : ReplayState) (t : ℕ)
-    → reply_of r.state (cancel t) ≡ Reply.Withdrawn
-    → IsSame (with_wait_for (program_of r) t None) (program_of (with_outside (with_step r (cancel t)) t None))
-gave_up_same r t e =
-    let q : ReplayState = with_step r (cancel t) in
-    let left = withdrawn r t e in
-    same_trans (with_wait_for (program_of r) t None) (with_wait_for (program_of q) t None) (program_of (with_outside q t None))
-    (again_same (program_of r) (program_of q) t (mutex_of (outside_of r t)) None left.1)
-    (idle_same q t left.0)
-
--- a task leaves a queue and waits outside
-pub passed_over_same :
-    (r : ReplayState) (t : ℕ) (w : Wait)
-    → wait_of r.state t ≡ Some w
-    → reply_of r.state (cancel t) ≡ Reply.Withdrawn
-    → outside_of (with_outside (with_step r (cancel t)) t (Some w)) t ≡ Some w
-    → IsSame (program_of r) (program_of (with_outside (with_step r (cancel t)) t (Some w)))
-passed_over_same r t w waits e there =
-    let p : Program = program_of r in
-    let q : ReplayState = with_step r (cancel t) in
-    let left = withdrawn r t e in
-    same_trans p (with_wait_for p t (Some w.mutex)) (program_of (with_outside q t (Some w)))
-    (kept_same p t (Some w.mutex) (ap (λ o. option_or (mutex_of o) (mutex_of (outside_of r t))) waits))
-    (same_trans (with_wait_for p t (Some w.mutex)) (with_wait_for (program_of q) t (Some w.mutex)) (program_of (with_outside q t (Some w)))
-    (again_same p (program_of q) t (mutex_of (outside_of r t)) (Some w.mutex) left.1)
-    (outside_same q t w left.0 there))
-
--- what a task in a queue waits for outside doesn't matter
-forgotten_same :
-    (r : ReplayState) (t m : ℕ)
-    → mutex_of (wait_of r.state t) ≡ Some m
-    → IsSame (program_of r) (program_of (with_outside r t None))
-forgotten_same r t m waits = record {
-  owner = refl;
-  base = refl;
-  protocol = refl;
-  awaits = λ u. go u (cases_eq u t);
-}
-  where
-    here : awaited (with_outside r t None) t ≡ awaited r t
-    here =
-        ap (λ o. option_or o (mutex_of (outside_of (with_outside r t None) t))) waits
-        ∙ sym (ap (λ o. option_or o (mutex_of (outside_of r t))) waits)
-
-    go : (u : ℕ) → (u ≡ t) ⊎ (u ≢ t) → awaited (with_outside r t None) u ≡ awaited r u
-    go u (inl is) = ap (awaited (with_outside r t None)) is ∙ here ∙ sym (ap (awaited r) is)
-    go u (inr ne) = ap (λ o. option_or (mutex_of (wait_of r.state u)) (mutex_of o)) (other_put r.outside t u None (λ is. ne (sym is)))
-
--- a task that waits outside joins the queue
-pub joined_same :
-    (r q s : ReplayState) (t m : ℕ)
-    → IsState r.state
-    → mutex_of (outside_of r t) ≡ Some m
-    → reply_of r.state (lock t m) ≡ Reply.Queued
-    → q ≡ with_step r (lock t m)
-    → s ≡ with_outside q t None
-    → IsSame (program_of r) (program_of s)
-joined_same r q s t m lists outside e step kept =
-    let S : State = r.state in
-    let p : Program = program_of r in
-    let next : ReplayState = with_step r (lock t m) in
-    let is : next.state ≡ queued S t m = ap (after_reply S t (Op.Lock m)) e in
-    let idle : wait_of S t ≡ None = idle_asks S t m _ e (λ no. absurd (cc no)) (λ no. absurd (cc no)) in
-    let waits : awaited r t ≡ Some m = ap₂ (λ a b. option_or (mutex_of a) b) idle outside in
-    let P : ReplayState → Type 0 = λ x. IsSame p (program_of x) in
-    let all : IsSame p (program_of (with_outside next t None)) =
-    same_trans p (program_of next) (program_of (with_outside next t None))
-    (same_trans p (with_wait_for p t (Some m)) (program_of next) (kept_same p t (Some m) waits) (queued_same r t m lists e))
-    (forgotten_same next t m (ap mutex_of (ap (λ T. wait_of T t) is ∙ queued_wait S t m lists e))) in
-    subst P (sym (kept ∙ ap (λ x. with_outside x t None) step)) all
-
--- a task leaves a queue and waits outside
-pub passed_over :
-    (r q s : ReplayState) (t : ℕ) (w : Wait)
-    → wait_of r.state t ≡ Some w
-    → reply_of r.state (cancel t) ≡ Reply.Withdrawn
-    → q ≡ with_step r (cancel t)
-    → s ≡ with_outside q t (Some w)
-    → (IsTask q.state t → outside_of s t ≡ Some w)
-    → IsSame (program_of r) (program_of s)
-passed_over r q s t w waits e step kept there =
-    let is : s ≡ with_outside (with_step r (cancel t)) t (Some w) = kept ∙ ap (λ x. with_outside x t (Some w)) step in
-    let P : ReplayState → Type 0 = λ x. IsSame (program_of r) (program_of x) in
-    let R : State → Type 0 = λ T. IsTask T t in
-    let left : (with_step r (cancel t)).state ≡ with_wait r.state t None = ap (after_reply r.state t (Op.Cancel t)) e in
-    let known : IsTask q.state t = subst R (sym (ap (λ (x : ReplayState). x.state) step ∙ left)) (known_cancels r.state t e) in
-    subst P (sym is) (passed_over_same r t w waits e (sym (ap (λ x. outside_of x t) is) ∙ there known))
-
--- a wait is refused, and kept outside
-pub refused_wait :
-    (r q s : ReplayState) (t : ℕ) (w : Wait)
-    → IsRefused r.state t w.mutex
-    → q ≡ with_step r (lock t w.mutex)
-    → s ≡ with_outside q t (Some w)
-    → (IsTask q.state t → outside_of s t ≡ Some w)
-    → IsSame (with_wait_for (program_of r) t (Some w.mutex)) (program_of s)
-refused_wait r q s t w still step kept there =
-    let is : s ≡ with_outside (with_step r (lock t w.mutex)) t (Some w) = kept ∙ ap (λ x. with_outside x t (Some w)) step in
-    let P : ReplayState → Type 0 = λ x. IsSame (with_wait_for (program_of r) t (Some w.mutex)) (program_of x) in
-    let R : ReplayState → Type 0 = λ x. IsTask x.state t in
-    subst P (sym is)
-    (refused_outside r t w still (λ known. sym (ap (λ x. outside_of x t) is) ∙ there (subst R (sym step) known)))
-
-pub continues_outside : (q s : ReplayState) (t : ℕ) (o : Option Wait) → s ≡ with_outside q t o → Continues q s
-continues_outside q s t o kept =
-    let P : ReplayState → Type 0 = λ x. Continues q x in
-    subst P (sym kept) (refl, prefix_self q.entries)
-
 -- a mutex is freed, and granted to a task that waited for it outside
 pub freed_granted_same :
-    (r : ReplayState) (t m u : ℕ)
+    (r p q s : ReplayState) (t m u : ℕ)
     → reply_of r.state (unlock t m) ≡ Reply.Freed
-    → reply_of (with_step r (unlock t m)).state (lock u m) ≡ Reply.Granted
-    → IsSame (given (program_of r) m (Some u)) (program_of (with_outside (with_step (with_step r (unlock t m)) (lock u m)) u None))
-freed_granted_same r t m u freed e =
-    let q : ReplayState = with_step r (unlock t m) in
-    same_trans (given (program_of r) m (Some u)) (given (program_of q) m (Some u)) (program_of (with_outside (with_step q (lock u m)) u None))
-    (given_twice (program_of r) (program_of q) m u (freed_same r t m freed))
-    (granted_same q u m e (freed_free r t m u freed))
+    → p ≡ with_step r (unlock t m)
+    → reply_of p.state (lock u m) ≡ Reply.Granted
+    → q ≡ with_step p (lock u m)
+    → s ≡ without_wait q u
+    → IsSame (given (program_of r) m (Some u)) (program_of s)
+freed_granted_same r p q s t m u freed first e second ended =
+    let other : owner_of p.state m ≡ Some u → ⊥ = λ owns. freed_free r t m u freed (sym (ap (λ (x : ReplayState). owner_of x.state m) first) ∙ owns) in
+    same_trans (given (program_of r) m (Some u)) (given (program_of p) m (Some u)) (program_of s)
+    (given_twice (program_of r) (program_of p) m u (freed_same r p t m freed first))
+    (granted_same p q s u m e other second ended)
 
 -- a base or a ceiling is set
 pub base_same :
-    (r : ReplayState) (a t level : ℕ)
+    (r s : ReplayState) (a t level : ℕ)
     → reply_of r.state (record { actor = a; op = Op.SetBase t level }) ≡ Reply.Set
-    → IsSame (observed (program_of r) (Base t level)) (program_of (with_step r (record { actor = a; op = Op.SetBase t level })))
-base_same r a t level e =
+    → s ≡ with_step r (record { actor = a; op = Op.SetBase t level })
+    → IsSame (observed (program_of r) (Base t level)) (program_of s)
+base_same r s a t level e made =
     let is = ap (after_reply r.state a (Op.SetBase t level)) e in
-    record {
+    let P : ReplayState → Type 0 = λ x. IsSame (observed (program_of r) (Base t level)) (program_of x) in
+    subst P (sym made)
+    (record {
       owner = ap (λ (T : State). T.owner) is;
       base = ap (λ (T : State). T.base) is;
       protocol = ap (λ (T : State). T.protocol) is;
-      awaits = λ u. ap (λ T. option_or (mutex_of (wait_of T u)) (mutex_of (outside_of r u))) is;
-    }
+      waits = λ u. refl;
+      next = refl;
+    })
 
 pub ceiling_same :
-    (r : ReplayState) (a m level : ℕ)
+    (r s : ReplayState) (a m level : ℕ)
     → reply_of r.state (record { actor = a; op = Op.SetCeiling m level }) ≡ Reply.Set
-    → IsSame (observed (program_of r) (Ceiling m level)) (program_of (with_step r (record { actor = a; op = Op.SetCeiling m level })))
-ceiling_same r a m level e =
+    → s ≡ with_step r (record { actor = a; op = Op.SetCeiling m level })
+    → IsSame (observed (program_of r) (Ceiling m level)) (program_of s)
+ceiling_same r s a m level e made =
     let is = ap (after_reply r.state a (Op.SetCeiling m level)) e in
-    record {
+    let P : ReplayState → Type 0 = λ x. IsSame (observed (program_of r) (Ceiling m level)) (program_of x) in
+    subst P (sym made)
+    (record {
       owner = ap (λ (T : State). T.owner) is;
       base = ap (λ (T : State). T.base) is;
       protocol = ap (λ (T : State). T.protocol) is;
-      awaits = λ u. ap (λ T. option_or (mutex_of (wait_of T u)) (mutex_of (outside_of r u))) is;
-    }
+      waits = λ u. refl;
+      next = refl;
+    })
 
 -- ---- further steps
 
@@ -612,3 +489,14 @@ continues_trans r s q a b = (b.0 ∙ a.0, prefix_trans r.entries s.entries q.ent
 
 pub continues_step : (r : ReplayState) (step : Step) → Continues r (with_step r step)
 continues_step r step = (refl, (record { step = step; reply = reply_of r.state step } ∷ [], refl))
+
+-- a wait that begins or ends is no step
+pub continues_ended : (q s : ReplayState) (t : ℕ) → s ≡ without_wait q t → Continues q s
+continues_ended q s t ended =
+    let P : ReplayState → Type 0 = λ x. Continues q x in
+    subst P (sym ended) (refl, prefix_self q.entries)
+
+pub continues_begun : (q s : ReplayState) (t m : ℕ) → s ≡ begun q t m → Continues q s
+continues_begun q s t m begins =
+    let P : ReplayState → Type 0 = λ x. Continues q x in
+    subst P (sym begins) (refl, prefix_self q.entries)

@@ -1,9 +1,7 @@
 -- Why the steps of a replay end early.
-use Rattle.std.proofs.Common.{◌≡◌, ◌≢◌, ◌≤◌, ℕ, Bool, true, false, not, ◌&&◌, eqb, inl, inr, List, [], ◌∷◌, length, Option, Some, None, unwrap_or, Result, IfErr, IsSome, refl, sym, ◌∙◌, ap, subst, arith}
-use Rattle.std.specs.Option.{option_or}
-use Rattle.std.proofs.lemmas.Bool.{cases_eq, eq-eqb}
+use Rattle.std.proofs.Common.{◌≡◌, ◌≢◌, ◌≤◌, ℕ, Bool, true, false, not, ◌&&◌, eqb, inl, inr, List, [], ◌∷◌, length, Option, Some, None, unwrap_or, Result, Ok, Err, IfOk, IfErr, IsSome, refl, sym, ◌∙◌, ap, subst, arith}
+use Rattle.std.proofs.lemmas.Bool.{eq-eqb}
 use Rattle.std.proofs.lemmas.Bool.Decides.{nat_tests}
-use Rattle.std.proofs.lemmas.Option.{none-some}
 use Rattle.std.proofs.lemmas.Result.{IfErr-weaker}
 use Rattle.pim_base.specs.Lists.{nth}
 use Rattle.pim_base.specs.State.{State, IsState, IsTask, IsMutex, owner_of, wait_of}
@@ -14,11 +12,11 @@ use Rattle.pim_base.specs.declared.steps.Reply.{Reply}
 use Rattle.pim_base.specs.declared.steps.Step.{Step}
 use Rattle.pim_base.specs.declared.steps.Wait.{Wait}
 use Rattle.pim_base.proofs.Places.{nth_within}
-use Rattle.pim_replay.specs.Replays.{ReplayState, Continues, mutex_of, program_of, NoneGoesOutside, outside_of, with_outside, with_step, lock, cancel}
-use Rattle.pim_replay.specs.Replays.{EndsWith, Stops, IsWait, IsNoWait, IsNoReturn, IsNotJoined, MayTake}
+use Rattle.pim_replay.specs.Replays.{ReplayState, Program, Continues, IsSame, mutex_of, program_of, program_wait, given, with_step, cancel}
+use Rattle.pim_replay.specs.Replays.{EndsWith, Stops, IsWait, IsNoWait, IsNoReturn, IsNotBack, IsNotReleased, MayTake}
 use Rattle.pim_replay.specs.declared.fault.ReplayFault.{ReplayFault}
 use Rattle.pim_replay.specs.declared.fault.ReplayFault.TheVariants.{Contradiction, Memory}
-use Rattle.pim_replay.proofs.Replaying.{continues_refl, continues_trans, no_mutex, none_put, other_put}
+use Rattle.pim_replay.proofs.Replaying.{continues_refl, continues_trans, same_awaits, same_given}
 
 -- ---- the last step
 
@@ -70,50 +68,68 @@ not_queued_nor_refused reply queued refused (inl is) = queued is
 not_queued_nor_refused reply queued refused (inr (inl is)) = refused Refusal.Deadlock is
 not_queued_nor_refused reply queued refused (inr (inr is)) = refused Refusal.Ceiling is
 
--- ---- the tasks that wait outside
+pub not_wait_refused :
+    (reply : Reply) (refusal : Refusal)
+    → reply ≡ Reply.Refused refusal
+    → (refusal ≡ Refusal.Deadlock → ⊥)
+    → (refusal ≡ Refusal.Ceiling → ⊥)
+    → ¬ IsWait reply
+not_wait_refused reply refusal is deadlock ceiling (inl so) = let no : Reply.Queued ≡ Reply.Refused refusal = sym so ∙ is in absurd (cc no)
+not_wait_refused reply refusal is deadlock ceiling (inr (inl so)) =
+    let same : Reply.Refused refusal ≡ Reply.Refused Refusal.Deadlock = sym is ∙ so in deadlock (cc same)
+not_wait_refused reply refusal is deadlock ceiling (inr (inr so)) =
+    let same : Reply.Refused refusal ≡ Reply.Refused Refusal.Ceiling = sym is ∙ so in ceiling (cc same)
 
--- who stopped waiting outside doesn't wait there
-pub outside_none : (q s : ReplayState) (t : ℕ) → s ≡ with_outside q t None → outside_of s t ≡ None
-outside_none q s t kept = ap (λ x. outside_of x t) kept ∙ none_put q.outside t
+-- ---- two facts of a call that succeeds
 
--- a task that joins its queue stops waiting outside, and nobody begins to
-pub none_goes_outside :
-    (r q s : ReplayState) (t m : ℕ)
-    → q ≡ with_step r (lock t m)
-    → s ≡ with_outside q t None
-    → NoneGoesOutside r s
-none_goes_outside r q s t m step kept u none = elim (cases_eq t u) [
-  | inl is ↦ ap (outside_of s) (sym is) ∙ outside_none q s t kept
-  | inr ne ↦
-      ap (λ x. outside_of x u) kept ∙ other_put q.outside t u None ne
-      ∙ ap (λ (x : ReplayState). outside_of x u) step ∙ none
-]
+pub ok_both :
+    {X : Type 0} (result : Result X ReplayFault) (A B C : Type 0)
+    → (A → B → C)
+    → IfOk result (λ _. A)
+    → IfOk result (λ _. B)
+    → IfOk result (λ _. C)
+ok_both (Ok x) A B C both a b = both a b
+ok_both (Err e) A B C both a b = tt
 
--- a task that waits outside isn't the owner, who doesn't wait there
-pub returns_otherwise :
-    (s : ReplayState) (t m : ℕ)
-    → outside_of s t ≡ None
+-- ---- the tasks that wait
+
+-- a task that waits for a mutex is the same in a program that is the same
+pub returns_same :
+    (p q : Program) (m : ℕ)
+    → IsSame p q
     → (step : Step) (reply : Reply)
-    → IsNoReturn s m step reply
-    → IsNotJoined t m step reply
-returns_otherwise s t m none step reply so = (so.0, (λ is. so.1 (ap (outside_of s) is ∙ none)), so.2)
+    → IsNoReturn q m step reply
+    → IsNoReturn p m step reply
+returns_same p q m is step reply so = (so.0, sym (same_awaits p q so.0 is) ∙ so.1, so.2)
 
--- a task that waited outside already joins its queue, and the steps end there
+pub back_same : (p q : Program) → IsSame p q → (step : Step) (reply : Reply) → IsNotBack q step reply → IsNotBack p step reply
+back_same p q is step reply so = (so.0, returns_same p q so.0 is step reply so.1)
+
+-- so is why a mutex isn't released
+pub released_same :
+    (p q : Program) (t m : ℕ) (o : Option ℕ)
+    → IsSame p q
+    → (step : Step) (reply : Reply)
+    → IsNotReleased q t m o step reply
+    → IsNotReleased p t m o step reply
+released_same p q t m None is step reply so = so
+released_same p q t m (Some u) is step reply (inl so) = inl so
+released_same p q t m (Some u) is step reply (inr (inl so)) = inr (inl so)
+released_same p q t m (Some u) is step reply (inr (inr so)) =
+    inr (inr (returns_same (given p m (Some u)) (given q m (Some u)) m (same_given p q m (Some u) is) step reply so))
+
+-- a task that waits for a mutex asks for it, and the steps end there
 pub returns_after :
     (r q s : ReplayState) (t m : ℕ) (w : Wait) (fault : ReplayFault)
     → Continues r q
-    → NoneGoesOutside r q
-    → outside_of q t ≡ Some w
+    → IsSame (program_of r) (program_of q)
+    → program_wait q t ≡ Some w
+    → w.mutex ≡ m
     → Stops q (IsNoWait t m) s fault
-    → Stops r (IsNoReturn r m) s fault
-returns_after r q s t m w fault before outside waits stops =
-    stops_after r q s (IsNoWait t m) (IsNoReturn r m) fault before
-    (λ step reply so. (t, (λ none. none-some w (sym (outside t none) ∙ waits)), so)) stops
-
--- who waits for nothing is in no queue
-pub none_queued : (queued outside : Option ℕ) → option_or queued outside ≡ None → queued ≡ None
-none_queued None outside none = refl
-none_queued (Some m) outside none = absurd (none-some m (sym none))
+    → Stops r (IsNoReturn (program_of r) m) s fault
+returns_after r q s t m w fault before same waits mutex stops =
+    stops_after r q s (IsNoWait t m) (IsNoReturn (program_of r) m) fault before
+    (λ step reply so. (t, (sym (same_awaits (program_of r) (program_of q) t same) ∙ ap mutex_of waits ∙ ap Some mutex), so)) stops
 
 known_item : {X : Type 0} (xs : List X) (n : ℕ) → IsSome (nth xs n) → (1 ≤ n) × (n ≤ length xs)
 known_item xs n known = go xs n (nth xs n) refl known
@@ -126,11 +142,8 @@ known_item xs n known = go xs n (nth xs n) refl known
 pub may_take :
     (r : ReplayState) (t m : ℕ)
     → MayTake (program_of r) t m
-    → (IsTask r.state t × (wait_of r.state t ≡ None)) × (IsMutex r.state m × (owner_of r.state m ≡ None))
-may_take r t m may = (
-  (known_item r.state.base t may.0, no_mutex (wait_of r.state t) (none_queued (mutex_of (wait_of r.state t)) (mutex_of (outside_of r t)) may.3)),
-  (known_item r.state.protocol m may.1, may.2),
-)
+    → IsTask r.state t × (IsMutex r.state m × (owner_of r.state m ≡ None))
+may_take r t m may = (known_item r.state.base t may.0, (known_item r.state.protocol m may.1, may.2))
 
 -- ---- a task that stops waiting
 

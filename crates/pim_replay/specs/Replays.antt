@@ -1,11 +1,11 @@
 -- What is known of a recorded program while a manager does what was observed of it.
-use Rattle.std.specs.Prelude.{◌≡◌, ◌≢◌, ◌⊎◌, ℕ, ◌==◌, nat_lt, ◌&&◌, ◌||◌, Bool, List, [], ◌∷◌, ◌++◌, length, replicate, Option}
-use Rattle.std.specs.Prelude.{Some, None, IsSome, IfSome, unwrap_or, if◌then◌else◌}
+use Rattle.std.specs.Prelude.{◌≡◌, ◌≢◌, ◌⊎◌, ◌+◌, ◌<◌, ℕ, ◌==◌, nat_lt, ◌&&◌, ◌||◌, Bool, List, [], ◌∷◌, ◌++◌, length}
+use Rattle.std.specs.Prelude.{replicate, Option, Some, None, IsSome, IfSome, unwrap_or, if◌then◌else◌}
 use Rattle.std.specs.Bool.{MatchBool}
-use Rattle.std.specs.Option.{option_map, option_or}
+use Rattle.std.specs.Option.{option_map}
 use mathlib.Core.List.{IsPrefix}
 use Rattle.pim_base.specs.Lists.{nth, put, holds}
-use Rattle.pim_base.specs.State.{State, IsState, IsTask, wait_of}
+use Rattle.pim_base.specs.State.{State, IsState, IsTask, owner_of, wait_of}
 use Rattle.pim_base.specs.Steps.{reply_of, after}
 use Rattle.pim_base.specs.Texts.{Trace}
 use Rattle.pim_base.specs.Recordings.{recording}
@@ -22,17 +22,18 @@ use Rattle.pim_replay.specs.declared.observation.Observation.TheVariants.{Grante
 use Rattle.pim_replay.specs.declared.fault.ReplayFault.{ReplayFault}
 use Rattle.pim_replay.specs.declared.fault.ReplayFault.TheVariants.{Contradiction, Memory}
 
--- the state of the manager at the start and now, the steps between with their replies, and what each task waits for
--- outside of the queues
+-- the state of the manager at the start and now, the steps between with their replies, what each task waits for in the
+-- program, and the number of the next wait; the ticket of a wait in the program is its number
 pub record ReplayState : Type 0 where
   pub start : State
   pub state : State
   pub entries : List Entry
-  pub outside : List (Option Wait)
+  pub waits : List (Option Wait)
+  pub next : ℕ
 
 -- nothing was observed yet
 abbrev pub at_start : State → ReplayState
-at_start S = record { start = S; state = S; entries = []; outside = replicate (length S.base) None }
+at_start S = record { start = S; state = S; entries = []; waits = replicate (length S.base) None; next = 1 }
 
 -- the trace that the steps are, with what is declared at the start; its version is the one that has each step
 abbrev pub trace_of_replay : ReplayState → Trace
@@ -55,10 +56,16 @@ unlock t m = record { actor = t; op = Op.Unlock m }
 abbrev pub cancel : ℕ → Step
 cancel t = record { actor = t; op = Op.Cancel t }
 
--- a lock by a task that isn't waiting changes nothing
+-- the model refuses that t waits for m: the wait would close a cycle of waits, or the base of t is above the ceiling
+abbrev pub IsRefusedWait : State → ℕ → ℕ → Type 0
+IsRefusedWait S t m =
+    (reply_of S (lock t m) ≡ Reply.Refused Refusal.Deadlock) ⊎ (reply_of S (lock t m) ≡ Reply.Refused Refusal.Ceiling)
+
+-- the model refuses the wait of a task that isn't waiting, which changes nothing
 pub record IsRefused (S : State) (t m : ℕ) : Type 0 where
   pub known : IsTask S t
   pub idle : wait_of S t ≡ None
+  pub refused : IsRefusedWait S t m
   pub unchanged : after S (lock t m) ≡ S
 
 -- the task is in the queue of m, or the model refused that and the task is in no queue
@@ -67,9 +74,13 @@ IsQueued r t m queued s =
     (s ≡ with_step r (lock t m)) × IsState r.state
     × MatchBool queued (reply_of r.state (lock t m) ≡ Reply.Queued) (IsRefused r.state t m)
 
--- the task waits for this outside of the queues, or for nothing
-abbrev pub with_outside : ReplayState → ℕ → Option Wait → ReplayState
-with_outside r t wait = record r { outside = put r.outside t wait }
+-- the task waits for nothing in the program
+abbrev pub without_wait : ReplayState → ℕ → ReplayState
+without_wait r t = record r { waits = put r.waits t None }
+
+-- the task begins to wait for m in the program, with the next number
+abbrev pub begun : ReplayState → ℕ → ℕ → ReplayState
+begun r t m = record r { waits = put r.waits t (Some (record { mutex = m; ticket = r.next })); next = r.next + 1 }
 
 -- the same start, and further steps
 abbrev pub Continues : ReplayState → ReplayState → Type 0
@@ -79,69 +90,113 @@ Continues r s = (s.start ≡ r.start) × IsPrefix r.entries s.entries
 abbrev pub mutex_of : Option Wait → Option ℕ
 mutex_of = option_map (λ (w : Wait). w.mutex)
 
--- what a task waits for outside of the queues
-abbrev pub outside_of : ReplayState → ℕ → Option Wait
-outside_of r t = unwrap_or (nth r.outside t) None
+-- what a task waits for in the program, in a queue or in none
+abbrev pub program_wait : ReplayState → ℕ → Option Wait
+program_wait r t = unwrap_or (nth r.waits t) None
 
--- the mutex that a task waits for in the program
+-- the mutex of that
 abbrev pub awaited : ReplayState → ℕ → Option ℕ
-awaited r t = option_or (mutex_of (wait_of r.state t)) (mutex_of (outside_of r t))
+awaited r t = mutex_of (program_wait r t)
 
--- what a program has: the owner of each mutex, the mutex that each task waits for, the bases and the protocols
+-- what a program has: the owner of each mutex, what each task waits for with the number of the wait, the bases, the
+-- protocols, and the number of the next wait
 pub record Program : Type 0 where
   pub owner : List (Option ℕ)
-  pub awaits : ℕ → Option ℕ
+  pub waits : ℕ → Option Wait
   pub base : List ℕ
   pub protocol : List Protocol
+  pub next : ℕ
 
 abbrev pub program_of : ReplayState → Program
 program_of r = record {
   owner = r.state.owner;
-  awaits = awaited r;
+  waits = program_wait r;
   base = r.state.base;
   protocol = r.state.protocol;
+  next = r.next;
 }
 
 pub record IsSame (p q : Program) : Type 0 where
   pub owner : q.owner ≡ p.owner
-  pub awaits : (t : ℕ) → q.awaits t ≡ p.awaits t
+  pub waits : (t : ℕ) → q.waits t ≡ p.waits t
   pub base : q.base ≡ p.base
   pub protocol : q.protocol ≡ p.protocol
+  pub next : q.next ≡ p.next
 
--- the task waits for this mutex, or for none
-abbrev pub with_wait_for : Program → ℕ → Option ℕ → Program
-with_wait_for p t mutex = record p { awaits = λ u. if u == t then mutex else p.awaits u }
+-- the mutex that a task waits for in a program
+abbrev pub awaits : Program → ℕ → Option ℕ
+awaits p t = mutex_of (p.waits t)
+
+-- the task waits for this, or for nothing
+abbrev pub with_wait : Program → ℕ → Option Wait → Program
+with_wait p t wait = record p { waits = λ u. if u == t then wait else p.waits u }
+
+-- the task begins to wait for m, with the next number
+abbrev pub with_next_wait : Program → ℕ → ℕ → Program
+with_next_wait p t m = record (with_wait p t (Some (record { mutex = m; ticket = p.next }))) { next = p.next + 1 }
 
 -- m goes to this task, which stops waiting, or is free
 abbrev pub given : Program → ℕ → Option ℕ → Program
 given p m None = record p { owner = put p.owner m None }
-given p m (Some t) = with_wait_for (record p { owner = put p.owner m (Some t) }) t None
+given p m (Some t) = with_wait (record p { owner = put p.owner m (Some t) }) t None
 
 -- the next owner of m, if it waits for m
 abbrev pub waiting_for : Program → ℕ → Option ℕ → Option ℕ
 waiting_for p m None = None
-waiting_for p m (Some t) = if holds (p.awaits t) m then Some t else None
+waiting_for p m (Some t) = if holds (awaits p t) m then Some t else None
 
 -- the program after an observation
 abbrev pub observed : Program → Observation → Program
 observed p (Granted t m) = given p m (Some t)
-observed p (Waits t m) = with_wait_for p t (Some m)
-observed p (GaveUp t) = with_wait_for p t None
+observed p (Waits t m) = with_next_wait p t m
+observed p (GaveUp t) = with_wait p t None
 observed p (Released t m next) = given p m (waiting_for p m next)
 observed p (Base t level) = record p { base = put p.base t level }
 observed p (Ceiling m level) = record p { protocol = put p.protocol m (Protocol.Protect level) }
 
--- the program has what was observed, and is the same in all else
-abbrev pub Observes : ReplayState → Observation → ReplayState → Type 0
-Observes r o s = IsSame (observed (program_of r) o) (program_of s)
+-- both tasks wait for one mutex
+abbrev pub WaitTogether : (ℕ → Option Wait) → ℕ → ℕ → Type 0
+WaitTogether waits t u = (m : ℕ) × (mutex_of (waits t) ≡ Some m) × (mutex_of (waits u) ≡ Some m)
 
--- nothing was observed
+-- where both tasks wait, t has the lower ticket
+abbrev pub IsEarlier : (ℕ → Option Wait) → ℕ → ℕ → Type 0
+IsEarlier waits t u = IfSome (waits t) (λ a. IfSome (waits u) (λ b. a.ticket < b.ticket))
+
+-- Queues are in the order in which the waits began: each wait has a lower number than the next one, a task in a queue waits
+-- for that mutex in the program, and of two in one queue the one with the lower ticket began to wait first. So those of one
+-- priority stand in this order.
+pub record IsInOrder (r : ReplayState) : Type 0 where
+  pub numbered : (t : ℕ) → IfSome (program_wait r t) (λ w. w.ticket < r.next)
+  pub queued : (t : ℕ) → IfSome (wait_of r.state t) (λ w. awaited r t ≡ Some w.mutex)
+  pub order :
+      (t u : ℕ) → WaitTogether (wait_of r.state) t u → IsEarlier (wait_of r.state) t u → IsEarlier (program_wait r) t u
+
+-- queues that are in this order stay in it
+abbrev pub StaysInOrder : ReplayState → ReplayState → Type 0
+StaysInOrder r s = IsInOrder r → IsInOrder s
+
+-- whoever is in the queue of m began to wait before a wait with this number
+abbrev pub IsBehindAll : ReplayState → ℕ → ℕ → Type 0
+IsBehindAll r m number =
+    (u : ℕ) → mutex_of (wait_of r.state u) ≡ Some m → IfSome (program_wait r u) (λ w. w.ticket < number)
+
+-- t is in the queue of m, unless m has no owner or the model refuses that
+abbrev pub IsQueuedIfItMay : ReplayState → ℕ → ℕ → Type 0
+IsQueuedIfItMay r t m =
+    (mutex_of (wait_of r.state t) ≡ Some m) ⊎ ((owner_of r.state m ≡ None) ⊎ IsRefusedWait r.state t m)
+
+-- so is a task that was observed to begin to wait
+abbrev pub JoinsQueue : Observation → ReplayState → Type 0
+JoinsQueue o s = (t m : ℕ) → o ≡ Waits t m → IsQueuedIfItMay s t m
+
+-- the program has what was observed, is the same in all else, and its queues stay in order
+pub record Observes (r : ReplayState) (o : Observation) (s : ReplayState) : Type 0 where
+  pub same : IsSame (observed (program_of r) o) (program_of s)
+  pub order : StaysInOrder r s
+
+-- nothing was observed: each task waits for what it did, with the same number
 abbrev pub StaysTheSame : ReplayState → ReplayState → Type 0
 StaysTheSame r s = IsSame (program_of r) (program_of s)
-
--- a task that doesn't wait outside of the queues doesn't begin to
-abbrev pub NoneGoesOutside : ReplayState → ReplayState → Type 0
-NoneGoesOutside r s = (t : ℕ) → outside_of r t ≡ None → outside_of s t ≡ None
 
 -- t with its wait is before u with its own: the ticket is lower, or the same and t is lower
 abbrev pub is_before : ℕ → Wait → ℕ → Wait → Bool
@@ -156,11 +211,10 @@ StayInOrder before now t u =
     (λ c. IfSome (now u)
     (λ d. is_before t c u d ≡ is_before t a u b))))
 
--- a task stays in its queue, and keeps its place before or behind others: those in queues, and those outside
+-- a task is in the queue that it was in, or in none if it was in none, and keeps its place before or behind others in queues
 pub record KeepsPlace (r s : ReplayState) (t : ℕ) : Type 0 where
-  pub queued : IsSome (wait_of r.state t) → IsSome (wait_of s.state t)
+  pub queued : mutex_of (wait_of s.state t) ≡ mutex_of (wait_of r.state t)
   pub queues : (u : ℕ) → StayInOrder (wait_of r.state) (wait_of s.state) t u
-  pub outside : (u : ℕ) → StayInOrder (outside_of r) (outside_of s) t u
 
 -- each task does
 abbrev pub KeepsOrder : ReplayState → ReplayState → Type 0
@@ -196,49 +250,51 @@ IsWait reply = (reply ≡ Reply.Queued) ⊎ ((reply ≡ Reply.Refused Refusal.De
 abbrev pub IsNoWait : ℕ → ℕ → Step → Reply → Type 0
 IsNoWait t m step reply = (step ≡ lock t m) × ¬ IsWait reply
 
--- a task that waits outside of the queues locks m, and the reply isn't a wait
-abbrev pub IsNoReturn : ReplayState → ℕ → Step → Reply → Type 0
-IsNoReturn r m step reply = (t : ℕ) × (outside_of r t ≢ None) × IsNoWait t m step reply
-
--- a task other than t locks m, and the reply isn't a wait
-abbrev pub IsNotJoined : ℕ → ℕ → Step → Reply → Type 0
-IsNotJoined t m step reply = (u : ℕ) × (u ≢ t) × IsNoWait u m step reply
+-- a task that waits for m in the program locks it, and the reply isn't a wait
+abbrev pub IsNoReturn : Program → ℕ → Step → Reply → Type 0
+IsNoReturn p m step reply = (t : ℕ) × (awaits p t ≡ Some m) × IsNoWait t m step reply
 
 -- t owns m and waits for nothing
 abbrev pub Has : Program → ℕ → ℕ → Type 0
-Has p t m = (unwrap_or (nth p.owner m) None ≡ Some t) × (p.awaits t ≡ None)
+Has p t m = (unwrap_or (nth p.owner m) None ≡ Some t) × (p.waits t ≡ None)
 
--- t, which hasn't m yet, locks it and isn't granted it; or another task then locks m and the reply isn't a wait
+-- t, which hasn't m yet, locks it and isn't granted it; or a task that waits for m then locks it and the reply isn't a wait
 abbrev pub IsNotGranted : Program → ℕ → ℕ → Step → Reply → Type 0
 IsNotGranted p t m step reply =
     (¬ Has p t m × IsOtherwise (lock t m) Reply.Granted step reply)
-    ⊎ IsNotJoined t m step reply
+    ⊎ IsNoReturn (given p m (Some t)) m step reply
 
 -- t unlocks m, which neither is free then nor goes to u
 abbrev pub IsNotPassedOn : ℕ → ℕ → ℕ → Step → Reply → Type 0
 IsNotPassedOn t m u step reply = (step ≡ unlock t m) × (reply ≢ Reply.Freed) × (reply ≢ Reply.Handed u)
 
 -- t unlocks m, and it isn't free then. If u is to own it next: that step doesn't pass it on; or u locks it and isn't granted
--- it; or another task then locks m and the reply isn't a wait
-abbrev pub IsNotReleased : ℕ → ℕ → Option ℕ → Step → Reply → Type 0
-IsNotReleased t m None = IsOtherwise (unlock t m) Reply.Freed
-IsNotReleased t m (Some u) = λ step reply.
+-- it; or a task that waits for m then locks it and the reply isn't a wait
+abbrev pub IsNotReleased : Program → ℕ → ℕ → Option ℕ → Step → Reply → Type 0
+IsNotReleased p t m None = IsOtherwise (unlock t m) Reply.Freed
+IsNotReleased p t m (Some u) = λ step reply.
     IsNotPassedOn t m u step reply
-    ⊎ (IsOtherwise (lock u m) Reply.Granted step reply ⊎ IsNotJoined u m step reply)
+    ⊎ (IsOtherwise (lock u m) Reply.Granted step reply ⊎ IsNoReturn (given p m (Some u)) m step reply)
+
+-- a task that waits for a mutex in the program locks it, and the reply isn't a wait
+abbrev pub IsNotBack : Program → Step → Reply → Type 0
+IsNotBack p step reply = (m : ℕ) × IsNoReturn p m step reply
 
 -- t and m are known, m is free, and t waits for nothing
 abbrev pub MayTake : Program → ℕ → ℕ → Type 0
 MayTake p t m =
-    IsSome (nth p.base t) × IsSome (nth p.protocol m) × (unwrap_or (nth p.owner m) None ≡ None) × (p.awaits t ≡ None)
+    IsSome (nth p.base t) × IsSome (nth p.protocol m) × (unwrap_or (nth p.owner m) None ≡ None) × (p.waits t ≡ None)
 
 -- the reply to the step isn't how the program went on when this was observed; a task can always give up
 abbrev pub Contradicts : Program → Observation → Step → Reply → Type 0
 Contradicts p (Granted t m) = IsNotGranted p t m
 Contradicts p (Waits t m) = λ step reply. ¬ MayTake p t m × IsNoWait t m step reply
 Contradicts p (GaveUp t) = λ step reply. ⊥
-Contradicts p (Released t m next) = IsNotReleased t m (waiting_for p m next)
+Contradicts p (Released t m next) = λ step reply.
+    IsNotReleased p t m (waiting_for p m next) step reply ⊎ IsNotBack (observed p (Released t m next)) step reply
 Contradicts p (Base t level) = IsNotSet (Op.SetBase t level)
-Contradicts p (Ceiling m level) = IsNotSet (Op.SetCeiling m level)
+Contradicts p (Ceiling m level) = λ step reply.
+    IsNotSet (Op.SetCeiling m level) step reply ⊎ IsNotBack (observed p (Ceiling m level)) step reply
 
 -- why an observation isn't replayed: memory ran out, or the model's reply to the last step contradicts it
 abbrev pub IsReplayFault : ReplayState → Observation → ReplayState → ReplayFault → Type 0

@@ -52,7 +52,7 @@ pub use observation::Observation;
 pub use piece::Piece;
 pub use priorities::{Priorities, Scale};
 pub use replay::Replay;
-pub use restoring::{TicketedWait, restored};
+pub use restoring::restored;
 pub use sharing::share;
 pub use span::Span;
 pub use times::Times;

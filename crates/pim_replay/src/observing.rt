@@ -1,34 +1,44 @@
 //! What each observation makes of a replay.
 
-ghost use Rattle.std.specs.Prelude.{◌≡◌, Some, IsSome, IfSome, IfOk, IfErr, OnErr, if◌then◌else◌};
-ghost use Rattle.pim_base.specs.State.{IsState, wait_of};
+ghost use Rattle.std.specs.Prelude.{◌≡◌, ◌≢◌, ◌⊎◌, None, Some, IsSome, IfSome, IfOk, IfErr, IsTrue, IsFalse};
+ghost use Rattle.std.specs.Prelude.{OnErr, length, if◌then◌else◌};
+ghost use Rattle.pim_base.specs.State.{IsState, IsTask, wait_of};
+ghost use Rattle.pim_base.specs.Steady.{IsSteady};
 ghost use Rattle.pim_base.specs.Steps.{reply_of};
+ghost use Rattle.pim_base.specs.declared.steps.Op.{Op};
 ghost use Rattle.pim_base.specs.declared.steps.Reply.TheVariants as reply;
-ghost use Rattle.pim_replay.specs.Replays.{Continues, Observes, StaysTheSame, NoneGoesOutside, IsQueued, IsSame, IsReplayFault, Stops};
-ghost use Rattle.pim_replay.specs.Replays.{IsOtherwise, IsNoWait, IsNoReturn, IsNotPassedOn, IsNotReleased};
-ghost use Rattle.pim_replay.specs.Replays.{given, lock, unlock, cancel, mutex_of, outside_of, program_of, with_step, waiting_for};
+ghost use Rattle.pim_replay.specs.Replays.{Continues, Observes, StaysInOrder, StaysTheSame, IsBehindAll};
+ghost use Rattle.pim_replay.specs.Replays.{IsInOrder, IsQueued, IsQueuedIfItMay, IsSame, IsReplayFault, JoinsQueue, Stops};
+ghost use Rattle.pim_replay.specs.Replays.{IsOtherwise, IsNoWait, IsNoReturn, IsNotBack, IsNotPassedOn};
+ghost use Rattle.pim_replay.specs.Replays.{IsNotReleased, IsNotSet, awaited, given, lock, unlock, cancel};
+ghost use Rattle.pim_replay.specs.Replays.{program_of, program_wait, with_step, waiting_for};
 ghost use Rattle.pim_replay.specs.declared.observation.Observation.TheVariants as observation;
 
 use crate::fault::ReplayFault;
 use crate::observation::Observation;
 use crate::replay::Replay;
-use pim_base::{MAX_TASKS, MutexNo, Op, Prio, Refusal, Reply, Step, TaskNo, Wait};
+use pim_base::{MAX_TASKS, MutexNo, Op, Prio, Refusal, Reply, Step, TaskNo};
 use std::alloc::AllocError;
 
 impl Replay {
     /// Makes the steps after which the manager has what was observed. What each task owns and waits for, the bases and
-    /// the protocols change as observed, and in nothing else.
+    /// the protocols change as observed, and in nothing else. Those of one priority stay in their queue in the order in
+    /// which they began to wait. Whoever begins to wait is queued, unless the mutex has no owner or the model refuses that.
     ///
-    /// A task that the mutex passes over leaves its queue and joins it again when the mutex has its next owner. So does
-    /// one that waits for a mutex whose owner isn't observed yet, or whose wait the model refuses, as where it would
-    /// close a cycle of waits.
+    /// A task that the mutex passes over leaves its queue and joins it again when the mutex has its next owner. One that
+    /// waits for a mutex whose owner isn't observed yet, or whose wait the model refuses, as where it would close a cycle of
+    /// waits, joins the queue then. A task that waits while it releases a mutex, or while its mutex gets a ceiling, leaves
+    /// its queue for that, since a model's task that waits makes no step. With one that leaves for a time, or joins later,
+    /// those leave and join again that began to wait after it.
     ///
     /// # Errors
     ///
     /// Returns `Contradiction` if the model's reply to a step, which is the last one then, isn't how the program was
-    /// observed to go on. Returns `Memory` if out of memory. The steps until then are made in both cases.
+    /// observed to go on. Returns `Memory` if out of memory, or of numbers for waits. The steps until then are made in
+    /// both cases.
     pub fn observe(&mut self, observation: &Observation) -> Result<(), ReplayFault>
         ensures observed { IfOk result (λ _. Observes self.old observation.now self.new) }
+        ensures queued { IfOk result (λ _. JoinsQueue observation.now self.new) }
         ensures fault { IfErr result (IsReplayFault self.old observation.now self.new) }
         ensures continues { Continues self.old self.new }
     {
@@ -49,10 +59,10 @@ impl Replay {
         ensures fault { IfErr result (IsReplayFault self.old (observation.Granted task mutex) self.new) }
         ensures continues { Continues self.old self.new }
     {
-        if self.queued(task).is_some() || self.owner(mutex) != Some(task) {
+        if self.is_queued(task) || self.owner(mutex) != Some(task) {
             self.require_lock(task, mutex)?;
         }
-        self.put_outside(task, None);
+        self.end_wait(task);
         self.rejoin(mutex)
     }
 
@@ -60,19 +70,40 @@ impl Replay {
     /// the wait.
     fn wait(&mut self, task: TaskNo, mutex: MutexNo) -> Result<(), ReplayFault>
         ensures observed { IfOk result (λ _. Observes self.old (observation.Waits task mutex) self.new) }
+        ensures queued { IfOk result (λ _. IsQueuedIfItMay self.new task mutex) }
         ensures fault { IfErr result (IsReplayFault self.old (observation.Waits task mutex) self.new) }
         ensures continues { Continues self.old self.new }
     {
-        let ticket = self.ticket_outside();
-        let outside = Wait { mutex, ticket };
-        if self.is_free(mutex) && self.is_idle(task) {
-            self.put_outside(task, Some(outside));
-            return Ok(());
+        if self.may_wait(task) {
+            self.begin_wait(task, mutex)?;
+            if self.is_free(mutex) {
+                return Ok(());
+            }
         }
-        if !self.queue(task, mutex)? {
-            self.put_outside(task, Some(outside));
-        }
+        self.queue(task, mutex)?;
         Ok(())
+    }
+
+    /// Returns whether there is such a task, and it may begin to wait: it isn't queued.
+    fn may_wait(&self, task: TaskNo) -> bool
+        ensures known { IsTrue result →
+            IsTask self.now.state task × (length self.now.waits ≡ length self.now.state.base) }
+        ensures idle { IsTrue result → IsInOrder self.now → wait_of self.now.state task ≡ None }
+        ensures may { IsTask self.now.state task → (wait_of self.now.state task ≡ None)
+            ⊎ (program_wait self.now task ≡ None) → IsTrue result }
+    {
+        1 <= task.get() && task.get() <= self.tasks() && !self.is_queued(task)
+    }
+
+    /// Returns whether the task waits in the program and is in a queue. Where queues are in order, one that waits for
+    /// nothing is in none: the test of the program lets a fault mean that the task waits, even if they aren't.
+    fn is_queued(&self, task: TaskNo) -> bool
+        ensures waits { IsTrue result → program_wait self.now task ≢ None }
+        ensures queued { IsTrue result → wait_of self.now.state task ≢ None }
+        ensures idle { IsFalse result → IsInOrder self.now → wait_of self.now.state task ≡ None }
+        ensures none { IsFalse result → (wait_of self.now.state task ≡ None) ⊎ (program_wait self.now task ≡ None) }
+    {
+        self.queued(task).is_some() && self.program_wait(task).is_some()
     }
 
     /// Ends the wait of the task.
@@ -84,7 +115,7 @@ impl Replay {
         if self.queued(task).is_some() {
             self.withdraw(task)?;
         }
-        self.put_outside(task, None);
+        self.end_wait(task);
         Ok(())
     }
 
@@ -99,6 +130,23 @@ impl Replay {
         ensures fault { IfErr result (IsReplayFault self.old (observation.Released task mutex next) self.new) }
         ensures continues { Continues self.old self.new }
     {
+        let left = self.step_out(task)?;
+        self.hand_on(task, mutex, next)?;
+        self.step_in(left)
+    }
+
+    /// Unlocks the mutex by a task that is in no queue. It goes to the next owner if that waits for it, and else is free.
+    fn hand_on(
+        &mut self,
+        task: TaskNo,
+        mutex: MutexNo,
+        next: Option<TaskNo>,
+    ) -> Result<(), ReplayFault>
+        ensures observed { IfOk result (λ _. Observes self.old (observation.Released task mutex next) self.new) }
+        ensures fault { IfErr result (Stops self.old
+            (IsNotReleased (program_of self.old) task mutex (waiting_for (program_of self.old) mutex next)) self.new) }
+        ensures continues { Continues self.old self.new }
+    {
         let next = self.waiting_for(mutex, next);
         self.pass_over(mutex, next)?;
         match &next {
@@ -107,17 +155,65 @@ impl Replay {
         }
     }
 
+    /// Takes a task out of the queue in which it waits, so that it can make a step, and those who began to wait there
+    /// after it. They wait outside then. Returns the mutex of that queue.
+    fn step_out(&mut self, task: TaskNo) -> Result<Option<MutexNo>, AllocError>
+        ensures same { IfOk result (λ _. StaysTheSame self.old self.new) }
+        ensures order { IfOk result (λ _. StaysInOrder self.old self.new) }
+        ensures continues { Continues self.old self.new }
+    {
+        let Some(mutex) = self.queued(task) else {
+            return Ok(None);
+        };
+        let Some(own) = self.program_wait(task) else {
+            return Ok(None);
+        };
+        for _round in 0..MAX_TASKS {
+            let Some(first) = self.first_queued(mutex, own.ticket) else {
+                break;
+            };
+            self.withdraw(first)?;
+        }
+        Ok(Some(mutex))
+    }
+
+    /// Takes the owner of the mutex, if there is one, out of the queue in which it waits, as above.
+    fn step_out_owner(&mut self, mutex: MutexNo) -> Result<Option<MutexNo>, AllocError>
+        ensures same { IfOk result (λ _. StaysTheSame self.old self.new) }
+        ensures order { IfOk result (λ _. StaysInOrder self.old self.new) }
+        ensures continues { Continues self.old self.new }
+    {
+        match self.owner(mutex) {
+            Some(owner) => self.step_out(owner),
+            None => Ok(None),
+        }
+    }
+
+    /// Lets those join the queue of this mutex, if there is one, that left it so that a task could make a step.
+    fn step_in(&mut self, mutex: Option<MutexNo>) -> Result<(), ReplayFault>
+        ensures same { IfOk result (λ _. StaysTheSame self.old self.new) }
+        ensures order { IfOk result (λ _. StaysInOrder self.old self.new) }
+        ensures fault { IfErr result (Stops self.old (IsNotBack (program_of self.old)) self.new) }
+        ensures continues { Continues self.old self.new }
+    {
+        match mutex {
+            Some(mutex) => self.rejoin(mutex),
+            None => Ok(()),
+        }
+    }
+
     /// Unlocks the mutex, and makes this task, which waits for it and is first in its queue or outside, the owner.
     /// Then the tasks that wait outside join its queue.
     fn give(&mut self, task: TaskNo, mutex: MutexNo, next: TaskNo) -> Result<(), ReplayFault>
         ensures given { IfOk result (λ _. IsSame (given (program_of self.old) mutex (Some next)) (program_of self.new)) }
-        ensures fault { IfErr result (Stops self.old (IsNotReleased task mutex (Some next)) self.new) }
+        ensures order { IfOk result (λ _. StaysInOrder self.old self.new) }
+        ensures fault { IfErr result (Stops self.old (IsNotReleased (program_of self.old) task mutex (Some next)) self.new) }
         ensures continues { Continues self.old self.new }
     {
         if self.pass_on(task, mutex, next)? {
             self.require_lock(next, mutex)?;
         }
-        self.put_outside(next, None);
+        self.end_wait(next);
         self.rejoin(mutex)
     }
 
@@ -133,20 +229,20 @@ impl Replay {
         }
     }
 
-    /// Takes the waiters but the next owner from the queue of the mutex, unless that is first. So when they join it again
-    /// none is behind one that began to wait later.
+    /// Takes the waiters but the next owner from the queue of the mutex, unless that is first. They wait outside then.
     fn pass_over(&mut self, mutex: MutexNo, next: Option<TaskNo>) -> Result<(), AllocError>
         ensures same { IfOk result (λ _. StaysTheSame self.old self.new) }
+        ensures order { IfOk result (λ _. StaysInOrder self.old self.new) }
         ensures continues { Continues self.old self.new }
     {
         if self.is_first(mutex, &next) {
             return Ok(());
         }
         for _round in 0..MAX_TASKS {
-            let Some((task, wait)) = self.queued_but(mutex, &next) else {
+            let Some(task) = self.queued_but(mutex, &next) else {
                 break;
             };
-            self.set_aside(task, wait)?;
+            self.withdraw(task)?;
         }
         Ok(())
     }
@@ -162,59 +258,51 @@ impl Replay {
         }
     }
 
-    /// Returns the first task but this one in the queue of the mutex, with its wait.
-    fn queued_but(&self, mutex: MutexNo, but: &Option<TaskNo>) -> Option<(TaskNo, Wait)>
-        ensures { IfSome result (λ first. wait_of self.now.state first.0 ≡ Some first.1) }
+    /// Returns the first task but this one in the queue of the mutex.
+    fn queued_but(&self, mutex: MutexNo, but: &Option<TaskNo>) -> Option<TaskNo>
+        ensures { IfSome result (λ task. IsSome (wait_of self.now.state task)) }
     {
         for waiter in self.manager().waiters(mutex)? {
-            if Some(waiter.task) != *but {
-                let wait = self.queued_wait(waiter.task)?;
-                return Some((waiter.task, wait));
+            if Some(waiter.task) != *but && self.queued(waiter.task).is_some() {
+                return Some(waiter.task);
             }
         }
         None
     }
 
-    /// Takes the task from the queue in which it has this wait. It waits outside then.
-    fn set_aside(&mut self, task: TaskNo, wait: Wait) -> Result<(), AllocError>
-        requires { wait_of self.old.state task ≡ Some wait }
+    /// Lets the tasks that wait outside join the queue of the mutex, in the order in which they began to wait.
+    pub(crate) fn rejoin(&mut self, mutex: MutexNo) -> Result<(), ReplayFault>
         ensures same { IfOk result (λ _. StaysTheSame self.old self.new) }
+        ensures order { IfOk result (λ _. StaysInOrder self.old self.new) }
+        ensures fault { IfErr result (Stops self.old (IsNoReturn (program_of self.old) mutex) self.new) }
         ensures continues { Continues self.old self.new }
     {
-        self.withdraw(task)?;
-        self.put_outside(task, Some(wait));
-        Ok(())
-    }
-
-    /// Lets the tasks that wait outside join the queue of the mutex, in the order of their tickets.
-    fn rejoin(&mut self, mutex: MutexNo) -> Result<(), ReplayFault>
-        ensures same { IfOk result (λ _. StaysTheSame self.old self.new) }
-        ensures fault { IfErr result (Stops self.old (IsNoReturn self.old mutex) self.new) }
-        ensures continues { Continues self.old self.new }
-    {
-        let mut ticket = 0;
-        let mut tried = TaskNo(0);
+        let mut from = 1;
         for _round in 0..MAX_TASKS {
-            let Some((task, wait)) = self.first_outside(mutex, ticket, tried) else {
+            let Some((task, wait)) = self.first_outside(mutex, from) else {
                 break;
             };
-            ticket = wait.ticket;
-            tried = task;
-            self.join(task, mutex)?;
+            from = wait.ticket.saturating_add(1);
+            self.join(task, mutex, wait.ticket)?;
         }
         Ok(())
     }
 
-    /// Lets a task that waits outside join the queue of its mutex, if the model doesn't refuse that.
-    fn join(&mut self, task: TaskNo, mutex: MutexNo) -> Result<(), ReplayFault>
-        requires { mutex_of (outside_of self.old task) ≡ Some mutex }
+    /// Lets a task whose wait for the mutex has this number join its queue, if the model doesn't refuse that. Those there
+    /// who began to wait later leave the queue first: they wait outside then.
+    fn join(&mut self, task: TaskNo, mutex: MutexNo, number: u64) -> Result<(), ReplayFault>
+        requires { program_wait self.old task ≡ Some (record { mutex = mutex; ticket = number }) }
         ensures same { IfOk result (λ _. StaysTheSame self.old self.new) }
-        ensures outside { IfOk result (λ _. NoneGoesOutside self.old self.new) }
+        ensures order { IfOk result (λ _. StaysInOrder self.old self.new) }
         ensures fault { IfErr result (Stops self.old (IsNoWait task mutex) self.new) }
         ensures continues { Continues self.old self.new }
     {
-        if self.queue(task, mutex)? {
-            self.put_outside(task, None);
+        for _round in 0..MAX_TASKS {
+            let Some(later) = self.first_queued(mutex, number) else {
+                self.queue(task, mutex)?;
+                return Ok(());
+            };
+            self.withdraw(later)?;
         }
         Ok(())
     }
@@ -236,6 +324,17 @@ impl Replay {
         ensures fault { IfErr result (IsReplayFault self.old (observation.Ceiling mutex ceiling) self.new) }
         ensures continues { Continues self.old self.new }
     {
+        let left = self.step_out_owner(mutex)?;
+        self.put_ceiling(mutex, ceiling)?;
+        self.step_in(left)
+    }
+
+    /// Gives the mutex this ceiling. Its owner does so if it has one, which is in no queue.
+    fn put_ceiling(&mut self, mutex: MutexNo, ceiling: Prio) -> Result<(), ReplayFault>
+        ensures observed { IfOk result (λ _. Observes self.old (observation.Ceiling mutex ceiling) self.new) }
+        ensures fault { IfErr result (Stops self.old (IsNotSet (Op.SetCeiling mutex ceiling)) self.new) }
+        ensures continues { Continues self.old self.new }
+    {
         let actor = match self.owner(mutex) {
             Some(owner) => owner,
             None => self.idle_task(TaskNo(1)),
@@ -248,6 +347,9 @@ impl Replay {
     /// cycle of waits, and one for a mutex whose ceiling is below the task's base.
     fn queue(&mut self, task: TaskNo, mutex: MutexNo) -> Result<bool, ReplayFault>
         ensures queued { IfOk result (λ queued. IsQueued self.old task mutex queued self.new) }
+        ensures order { IfOk result (λ _. awaited self.old task ≡ Some mutex →
+            IfSome (program_wait self.old task) (λ wait. IsBehindAll self.old mutex wait.ticket) →
+            StaysInOrder self.old self.new) }
         ensures fault { IfErr result (Stops self.old (IsNoWait task mutex) self.new) }
         ensures continues { Continues self.old self.new }
     {
@@ -267,12 +369,13 @@ impl Replay {
         ensures made { IfOk result (λ _. self.new ≡ with_step self.old (lock task mutex)) }
         ensures err { OnErr result (self.new ≡ self.old) }
         ensures lists { IsState self.old.state }
+        ensures steady { IsSteady self.old.state }
     {
         self.make(lock(task, mutex))
     }
 
     /// Makes the lock of the mutex by the task, which must be granted.
-    fn require_lock(&mut self, task: TaskNo, mutex: MutexNo) -> Result<(), ReplayFault>
+    pub(crate) fn require_lock(&mut self, task: TaskNo, mutex: MutexNo) -> Result<(), ReplayFault>
         ensures made { IfOk result (λ _.
             (reply_of self.old.state (lock task mutex) ≡ reply.Granted)
             × (self.new ≡ with_step self.old (lock task mutex))) }
@@ -325,7 +428,7 @@ impl Replay {
     }
 }
 
-fn lock(task: TaskNo, mutex: MutexNo) -> Step
+pub(crate) fn lock(task: TaskNo, mutex: MutexNo) -> Step
     ensures { result ≡ lock task mutex }
 {
     Step {

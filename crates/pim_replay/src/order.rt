@@ -3,7 +3,8 @@
 ghost use Rattle.std.specs.Prelude.{◌≡◌, ◌≢◌, ◌↔◌, IsTrue, Some, IsSome, IfSome, IfNone, All, Contains};
 ghost use Rattle.pim_base.specs.State.{wait_of};
 ghost use Rattle.pim_base.specs.declared.steps.Waiter.{Waiter};
-ghost use Rattle.pim_replay.specs.Replays.{KeepsOrder, KeepsPlace, StayInOrder, is_before, mutex_of, outside_of};
+ghost use Rattle.pim_replay.specs.Replays.{IsBehindAll, KeepsOrder, KeepsPlace, StayInOrder};
+ghost use Rattle.pim_replay.specs.Replays.{is_before, mutex_of, program_wait};
 
 use crate::replay::Replay;
 use pim_base::{MutexNo, TaskNo, Wait, Waiter};
@@ -17,12 +18,12 @@ struct Waits {
 }
 
 impl Replay {
-    /// Returns whether each task that is in a queue of another replay is in one here, and the order of the tickets is the
-    /// same: among the tasks in queues, and among those that wait outside. Compares any two tasks.
+    /// Returns whether each task is in the queue in which it is in another replay, or in none, and the tickets have the same
+    /// order. Compares any two tasks.
     pub(crate) fn has_order_of(&self, other: &Replay) -> bool
         ensures { IsTrue result ↔ KeepsOrder other.now self.now }
     {
-        let count = other.tasks();
+        let count = self.tasks().max(other.tasks());
         for place in 0..count {
             if !self.has_place_of(other, TaskNo(place + 1)) {
                 return false;
@@ -31,36 +32,20 @@ impl Replay {
         true
     }
 
-    /// Returns whether the task stays in its queue, and keeps its place before or behind each other one.
+    /// Returns whether the task is in the same queue, or in none, and keeps its place before or behind each other one.
     fn has_place_of(&self, other: &Replay, task: TaskNo) -> bool
         ensures { IsTrue result ↔ KeepsPlace other.now self.now task }
     {
-        if !self.stays_queued(other, task) {
+        if self.queued(task) != other.queued(task) {
             return false;
         }
         let count = other.tasks();
         for place in 0..count {
-            if !self.has_pair_of(other, task, TaskNo(place + 1)) {
+            if !self.has_queued_order_of(other, task, TaskNo(place + 1)) {
                 return false;
             }
         }
         true
-    }
-
-    /// Returns whether the task is in a queue here if it is in one of another replay.
-    fn stays_queued(&self, other: &Replay, task: TaskNo) -> bool
-        ensures { IsTrue result ↔ (IsSome (wait_of other.now.state task) → IsSome (wait_of self.now.state task)) }
-    {
-        other.queued_wait(task).is_none() || self.queued_wait(task).is_some()
-    }
-
-    /// Returns whether two tasks have the same order in the queues, and outside of them.
-    fn has_pair_of(&self, other: &Replay, task: TaskNo, second: TaskNo) -> bool
-        ensures { IsTrue result ↔ (StayInOrder (wait_of other.now.state) (wait_of self.now.state) task second
-            × StayInOrder (outside_of other.now) (outside_of self.now) task second) }
-    {
-        self.has_queued_order_of(other, task, second)
-            && self.has_outside_order_of(other, task, second)
     }
 
     /// Returns whether two tasks that are in queues of both replays have the same order.
@@ -78,21 +63,6 @@ impl Replay {
         stay_in_order(task, second, &before, &after)
     }
 
-    /// Returns whether two tasks that wait outside in both replays have the same order.
-    fn has_outside_order_of(&self, other: &Replay, task: TaskNo, second: TaskNo) -> bool
-        ensures { IsTrue result ↔ StayInOrder (outside_of other.now) (outside_of self.now) task second }
-    {
-        let before = Waits {
-            one: other.outside_wait(task),
-            other: other.outside_wait(second),
-        };
-        let after = Waits {
-            one: self.outside_wait(task),
-            other: self.outside_wait(second),
-        };
-        stay_in_order(task, second, &before, &after)
-    }
-
     /// Returns what the task waits for in a queue. Looks at each waiter there.
     pub(crate) fn queued_wait(&self, task: TaskNo) -> Option<Wait>
         ensures { result ≡ wait_of self.now.state task }
@@ -101,17 +71,43 @@ impl Replay {
         wait_in(self.manager(), mutex, task)
     }
 
-    /// Returns a ticket for a task that begins to wait outside of the queues. It is behind those that wait there already.
-    pub(crate) fn ticket_outside(&self) -> u64 {
-        let mut ticket = self.manager().next_ticket();
-        if self.has_outsiders() {
-            for number in 1..=self.manager().tasks() {
-                if let Some(wait) = self.outside_wait(TaskNo(number)) {
-                    ticket = ticket.max(wait.ticket.saturating_add(1));
-                }
+    /// Returns the task in the queue of the mutex whose wait began first, of the waits with this number or a higher one.
+    /// Looks at each waiter there.
+    pub(crate) fn first_queued(&self, mutex: MutexNo, from: u64) -> Option<TaskNo>
+        ensures queued { IfSome result (λ task. IsSome (wait_of self.now.state task)) }
+        ensures none { IfNone result (IsBehindAll self.now mutex from) }
+    {
+        // By its contract the proof knows that the state is steady.
+        let _steady = self.manager().tasks();
+        let mut first: Option<(TaskNo, u64)> = None;
+        for waiter in self.manager().waiters(mutex)? {
+            let task = waiter.task;
+            let number = self.number_of(task);
+            if from <= number && is_lower(number, &first) {
+                first = Some((task, number));
             }
         }
-        ticket
+        first.map(|(task, _)| task)
+    }
+
+    /// Returns the number of the task's wait in the program, 2^64 - 1 if it waits for nothing there.
+    fn number_of(&self, task: TaskNo) -> u64
+        ensures { IfSome (program_wait self.now task) (λ wait. result ≡ wait.ticket) }
+    {
+        match self.program_wait(task) {
+            Some(wait) => wait.ticket,
+            None => u64::MAX,
+        }
+    }
+}
+
+/// Returns whether a number is lower than that of the first so far, if there is one.
+fn is_lower(number: u64, first: &Option<(TaskNo, u64)>) -> bool
+    ensures { IfNone first.now (IsTrue result) }
+{
+    match first {
+        Some((_, lowest)) => number < *lowest,
+        None => true,
     }
 }
 

@@ -4,10 +4,12 @@ ghost use Rattle.std.specs.Prelude.{◌≡◌, ◌↔◌, ℕ, length, Some, Non
 ghost use Rattle.pim_base.specs.Reports.{verdict_of};
 ghost use Rattle.pim_base.specs.Runs.{IsRun};
 ghost use Rattle.pim_base.specs.State.{IsState, IsTask, IsMutex, start, base_of, protocol_of, owner_of, wait_of};
+ghost use Rattle.pim_base.specs.Steady.{IsSteady};
+ghost use Rattle.pim_base.specs.Lists.{put};
 ghost use Rattle.pim_base.specs.Steps.{reply_of};
 ghost use Rattle.pim_base.specs.declared.lines.Verdict.{Verdict};
-ghost use Rattle.pim_replay.specs.Replays.{Continues, trace_of_replay, awaited, mutex_of, outside_of, at_start};
-ghost use Rattle.pim_replay.specs.Replays.{with_step, with_outside, StaysTheSame, Stops, IsOtherwise};
+ghost use Rattle.pim_replay.specs.Replays.{Continues, trace_of_replay, awaited, mutex_of, program_wait, at_start};
+ghost use Rattle.pim_replay.specs.Replays.{begun, with_step, without_wait, IsInOrder, IsOtherwise, StaysTheSame, Stops};
 
 use crate::fault::ReplayFault;
 use pim_base::{Entry, MutexNo, Prio, Protocol, Reply, Step, TaskNo, Wait, nth};
@@ -18,21 +20,27 @@ use std::marker::Model;
 /// The steps by which a manager did what was observed of a recorded program, each with its reply.
 ///
 /// In the program a mutex may go to any task, and a task that waits may be passed over. A manager gives it to the first
-/// waiter. So tasks that were passed over leave the queue, and join it again behind the new owner. Until then, and if a
-/// wait would close a cycle of waits, they wait in the program and are in no queue.
+/// waiter. So tasks that were passed over leave the queue, and join it again behind the new owner. Until then they wait in
+/// the program and are in no queue, and so does a task whose mutex has no owner, or whose wait the model refuses.
 ///
-/// In contracts it is the state at the start and now, the steps between, and the waits of tasks that are in no queue. The
-/// type keeps that the steps, with their replies, are a run of the model.
+/// Each wait has a number in the program, from 1 on: one that began later has a higher one.
+///
+/// In contracts it is the state at the start and now, the steps between, what each task waits for in the program, and the
+/// number of the next wait. The type keeps that the steps, with their replies, are a run of the model.
 #[derive(Drop)]
 pub struct Replay {
     bases: Vec<Prio>,
     protocols: Vec<Protocol>,
     manager: Manager,
     entries: Vec<Entry>,
-    /// What each task waits for outside of the queues.
-    outside: Vec<Option<Wait>>,
-    /// How many tasks wait there.
-    outsiders: usize,
+    /// What each task waits for in the program, with the number of the wait as its ticket.
+    waits: Vec<Option<Wait>>,
+    /// The number of the next wait.
+    next: u64,
+    /// How many tasks wait in the program.
+    waiting: usize,
+    /// How many of them are in a queue.
+    queued: usize,
 }
 
 impl Model for Replay {
@@ -47,11 +55,12 @@ impl Model for Replay {
       start = start r.bases.items r.protocols.items 1;
       state = r.manager;
       entries = r.entries.items;
-      outside = r.outside.items;
+      waits = r.waits.items;
+      next = r.next;
     } };
 
     ghost invariant = { λ r. IsRun (start r.bases.items r.protocols.items 1) r.entries.items r.manager
-        × (length r.outside.items ≡ length r.manager.base) };
+        × (length r.waits.items ≡ length r.manager.base) };
 }
 
 impl Replay {
@@ -65,17 +74,20 @@ impl Replay {
         bases: Vec<Prio>,
         protocols: Vec<Protocol>,
     ) -> Result<Replay, MakeFault>
-        ensures { IfOk result (λ replay. replay ≡ at_start (start bases.items protocols.items 1)) }
+        ensures start { IfOk result (λ replay. replay ≡ at_start (start bases.items protocols.items 1)) }
+        ensures order { IfOk result (λ replay. IsInOrder replay) }
     {
         let manager = Manager::new(alloc, &bases, &protocols)?;
-        let outside = vec![in alloc; None; bases.len()]?;
+        let waits = vec![in alloc; None; bases.len()]?;
         Ok(Replay {
             bases,
             protocols,
             manager,
             entries: Vec::new(alloc),
-            outside,
-            outsiders: 0,
+            waits,
+            next: 1,
+            waiting: 0,
+            queued: 0,
         })
     }
 
@@ -114,10 +126,14 @@ impl Replay {
     pub fn awaits(&self, task: TaskNo) -> Option<MutexNo>
         ensures { result ≡ awaited self.now task }
     {
-        match self.queued(task) {
-            Some(mutex) => Some(mutex),
-            None => self.outside_wait(task).map(|wait| wait.mutex),
-        }
+        self.program_wait(task).map(|wait| wait.mutex)
+    }
+
+    /// Returns what the task waits for in the program, with the number of the wait as its ticket.
+    pub(crate) fn program_wait(&self, task: TaskNo) -> Option<Wait>
+        ensures { result ≡ program_wait self.now task }
+    {
+        nth(&self.waits, task.get()).flatten()
     }
 
     /// Returns the mutex in whose queue the task is.
@@ -138,30 +154,34 @@ impl Replay {
         self.manager.owner(mutex).flatten()
     }
 
-    /// Returns the first task behind this one, by ticket and number, that waits for the mutex outside of its queue.
-    pub(crate) fn first_outside(
-        &self,
-        mutex: MutexNo,
-        ticket: u64,
-        task: TaskNo,
-    ) -> Option<(TaskNo, Wait)>
+    /// Returns the task in no queue whose wait for the mutex began first, of the waits with this number or a higher one.
+    /// Looks at each task if any waits outside of the queues.
+    pub(crate) fn first_outside(&self, mutex: MutexNo, from: u64) -> Option<(TaskNo, Wait)>
         ensures { IfSome result (λ first.
-            (outside_of self.now first.0 ≡ Some first.1) × (first.1.mutex ≡ mutex)) }
+            (program_wait self.now first.0 ≡ Some first.1) × (first.1.mutex ≡ mutex)) }
     {
         let mut first: Option<(TaskNo, Wait)> = None;
-        if self.outsiders == 0 {
+        if self.waiting <= self.queued {
             return first;
         }
         for number in 1..=self.manager.tasks() {
             if let Some(wait) = self.outside_wait(TaskNo(number)) {
-                let is_behind = ticket < wait.ticket
-                    || ticket == wait.ticket && task.get() < number;
-                if wait.mutex == mutex && is_behind && is_before(&wait, &first) {
+                if wait.mutex == mutex && from <= wait.ticket && is_before(&wait, &first) {
                     first = Some((TaskNo(number), wait));
                 }
             }
         }
         first
+    }
+
+    /// Returns what the task waits for in the program if it is in no queue.
+    fn outside_wait(&self, task: TaskNo) -> Option<Wait>
+        ensures { IfSome result (λ wait. program_wait self.now task ≡ Some wait) }
+    {
+        match self.queued(task) {
+            Some(_) => None,
+            None => self.program_wait(task),
+        }
     }
 
     /// Returns whether there is such a task, and it is in no queue.
@@ -193,11 +213,11 @@ impl Replay {
     }
 
     /// Returns whether each mutex has the owner and the protocol that it has in another replay, and each task its base and
-    /// the mutex that it waits for. Reads each of them once.
+    /// its wait, with the same number. Reads each of them once.
     pub(crate) fn has_program_of(&self, other: &Replay) -> bool
         ensures { IsTrue result → StaysTheSame other.now self.now }
     {
-        self.has_mutexes_of(other) && self.has_tasks_of(other)
+        self.next == other.next && self.has_mutexes_of(other) && self.has_tasks_of(other)
     }
 
     /// Returns whether each mutex has the owner and the protocol that it has in another replay.
@@ -230,10 +250,10 @@ impl Replay {
             && self.manager.protocol(mutex) == other.manager.protocol(mutex)
     }
 
-    /// Returns whether each task has the base that it has in another replay, and waits for the same mutex.
+    /// Returns whether each task has the base and the wait that it has in another replay.
     fn has_tasks_of(&self, other: &Replay) -> bool
         ensures bases { IsTrue result → self.now.state.base ≡ other.now.state.base }
-        ensures waits { IsTrue result → (t : ℕ) → awaited self.now t ≡ awaited other.now t }
+        ensures waits { IsTrue result → (t : ℕ) → program_wait self.now t ≡ program_wait other.now t }
     {
         let count = self.manager.tasks();
         if other.manager.tasks() != count {
@@ -247,15 +267,15 @@ impl Replay {
         true
     }
 
-    /// Returns whether the task has the base that it has in another replay, and waits for the same mutex.
+    /// Returns whether the task has the base and the wait that it has in another replay.
     fn has_task_of(&self, other: &Replay, task: TaskNo) -> bool
         requires own { IsTask self.now.state task }
         requires others { IsTask other.now.state task }
         ensures base { IsTrue result → base_of self.now.state task ≡ base_of other.now.state task }
-        ensures waits { IsTrue result → awaited self.now task ≡ awaited other.now task }
+        ensures waits { IsTrue result → program_wait self.now task ≡ program_wait other.now task }
     {
         self.manager.base(task) == other.manager.base(task)
-            && self.awaits(task) == other.awaits(task)
+            && self.program_wait(task) == other.program_wait(task)
     }
 
     /// Makes the step, and keeps it with its reply.
@@ -268,6 +288,7 @@ impl Replay {
         ensures made { IfOk result (λ _. self.new ≡ with_step self.old step) }
         ensures err { OnErr result (self.new ≡ self.old) }
         ensures lists { IsState self.old.state }
+        ensures steady { IsSteady self.old.state }
     {
         // By its contract the proof knows that the state is steady.
         let _steady = self.manager.tasks();
@@ -280,6 +301,7 @@ impl Replay {
         let Some(last) = self.entries.last() else {
             unreachable!()
         };
+        self.queued = queued_after(self.queued, &last.reply);
         Ok(last.reply)
     }
 
@@ -302,39 +324,68 @@ impl Replay {
     }
 
     /// Returns how many tasks there are.
-    pub(crate) fn tasks(&self) -> u16
+    pub fn tasks(&self) -> u16
         ensures count { result ≡ length self.now.state.base }
         ensures lists { IsState self.now.state }
-        ensures outside { length self.now.outside ≡ length self.now.state.base }
+        ensures waits { length self.now.waits ≡ length self.now.state.base }
     {
         self.manager.tasks()
     }
 
-    /// Returns whether a task waits outside of the queues.
-    pub(crate) fn has_outsiders(&self) -> bool {
-        self.outsiders > 0
-    }
-
-    /// Returns what the task waits for outside of the queues.
-    pub(crate) fn outside_wait(&self, task: TaskNo) -> Option<Wait>
-        ensures { result ≡ outside_of self.now task }
+    /// Lets the task begin to wait for the mutex in the program, in no queue. An unknown task waits for nothing.
+    ///
+    /// # Errors
+    ///
+    /// Returns `AllocError` if the last number is the next wait's, 2^64 - 1. Nothing has changed then.
+    pub(crate) fn begin_wait(&mut self, task: TaskNo, mutex: MutexNo) -> Result<(), AllocError>
+        ensures begun { IfOk result (λ _. self.new ≡ begun self.old task mutex) }
+        ensures err { OnErr result (self.new ≡ self.old) }
     {
-        nth(&self.outside, task.get()).flatten()
+        let Some(next) = self.next.checked_add(1) else {
+            return Err(AllocError);
+        };
+        let ticket = self.next;
+        self.put_wait(task, Some(Wait { mutex, ticket }));
+        self.next = next;
+        Ok(())
     }
 
-    /// Keeps what the task waits for outside of the queues. An unknown task waits for nothing.
-    pub(crate) fn put_outside(&mut self, task: TaskNo, wait: Option<Wait>)
-        ensures kept { self.new ≡ with_outside self.old task wait }
-        ensures there { IsTask self.old.state task → outside_of self.new task ≡ wait }
+    /// Ends the wait of the task in the program.
+    pub(crate) fn end_wait(&mut self, task: TaskNo)
+        ensures { self.new ≡ without_wait self.old task }
+    {
+        self.put_wait(task, None);
+    }
+
+    /// Begins with the waits of another replay's program, in no queue.
+    pub(crate) fn take_waits_of(&mut self, other: &Replay) {
+        self.next = other.next;
+        for number in 1..=self.manager.tasks() {
+            self.put_wait(TaskNo(number), other.program_wait(TaskNo(number)));
+        }
+    }
+
+    /// Keeps what the task waits for in the program. An unknown task waits for nothing.
+    fn put_wait(&mut self, task: TaskNo, wait: Option<Wait>)
+        ensures { self.new ≡ record self.old { waits = put self.old.waits task wait } }
     {
         if let Some(place) = (task.get() as usize).checked_sub(1) {
-            if place < self.outside.len() {
-                let removed = usize::from(self.outside[place].is_some());
+            if place < self.waits.len() {
+                let removed = usize::from(self.waits[place].is_some());
                 let added = usize::from(wait.is_some());
-                self.outside[place] = wait;
-                self.outsiders = self.outsiders.saturating_add(added).saturating_sub(removed);
+                self.waits[place] = wait;
+                self.waiting = self.waiting.saturating_add(added).saturating_sub(removed);
             }
         }
+    }
+}
+
+/// Returns how many tasks are in queues after a reply if there were so many before.
+fn queued_after(queued: usize, reply: &Reply) -> usize {
+    match reply {
+        Reply::Queued => queued.saturating_add(1),
+        Reply::Withdrawn | Reply::Handed(_) => queued.saturating_sub(1),
+        _ => queued,
     }
 }
 

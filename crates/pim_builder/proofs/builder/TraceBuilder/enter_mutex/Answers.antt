@@ -1,8 +1,9 @@
 use Rattle.std.proofs.Common.{◌≡◌, ◌∙◌, refl, sym, ap, subst, ℕ, Some, None}
 use Rattle.pim_replay.specs.Replays.{Program}
 use Rattle.pim_replay.proofs.Replaying.{same_refl}
-use Rattle.pim_builder.specs.Frames.{ChangesThose, View, mutex_in, program_at, view_of}
-use Rattle.pim_builder.specs.Showing.{held, number_in}
+use Rattle.pim_builder.specs.Frames.{ChangesThose}
+use Rattle.pim_builder.specs.Views.{View, mutex_in, program_at, view_of}
+use Rattle.pim_builder.specs.Views.{held, number_in}
 use Rattle.pim_builder.specs.Shown.{Extends}
 use Rattle.pim_builder.specs.declared.builder.TraceBuilder.{TraceBuilder}
 use Rattle.pim_builder.proofs.Entering.{enters_mutex}
@@ -54,4 +55,5 @@ returns-clause-only c =
     enters_mutex c.args.context.now c.args.mutex number c.in-Some-mutex_of.number old (view_of c.if-eq.self)
     (program_at c.clear.new.self) (sym c.in_default.ensures) (sym c.in-Some-of.ensures) numbered
     (way.2 ∙ ap (λ (v : View). v.mutexes) taken) (way.1 ∙ ap (λ (v : View). v.threads) taken) c.in_ok-clear.ensures.only
+    c.in_ok-clear.ensures.cleared c.in_ok-clear.ensures.frees
     (subst (λ p. Set p (program_at c.if-eq.self.pieces)) (ap (λ (v : View). v.program) taken) way.0)

@@ -1,6 +1,6 @@
-use Rattle.std.proofs.Common.{None, Some}
-use Rattle.pim_replay.specs.declared.observation.Observation.TheVariants.{Base}
-use Rattle.pim_builder.specs.Frames.{program_at, view_of}
+use Rattle.std.proofs.Common.{◌∙◌, None, Some, sym}
+use Rattle.pim_replay.specs.declared.observation.Observation.TheVariants.{Base, Ceiling}
+use Rattle.pim_builder.specs.Views.{program_at, view_of}
 use Rattle.pim_builder.proofs.Entering.{ceiling_only, keeps_from, level_only, none_changed}
 use Rattle.pim_builder.proofs.Extending.{cut_and_on, cut_and_extended, extends_steps}
 use Rattle.pim_builder.proofs.Framing.{by_observation}
@@ -11,10 +11,10 @@ returns-in_ok-observe-in-Level-clause-on c =
     cut_and_on c.args.context.now c.args.now.now.time c.args.self.now c.cut.new.self c.observe.new.self
     c.in_ok-cut.ensures.on c.in_ok-observe-in-Level.ensures.on
 
-pub returns-in_ok-set_ceiling-in-Ceiling-clause-on : goal.returns-in_ok-set_ceiling-in-Ceiling-clause-on
-returns-in_ok-set_ceiling-in-Ceiling-clause-on c =
-    cut_and_on c.args.context.now c.args.now.now.time c.args.self.now c.cut.new.self c.set_ceiling.new.self
-    c.in_ok-cut.ensures.on c.in_ok-set_ceiling-in-Ceiling.ensures.on
+pub returns-in_ok-observe-in-Ceiling-clause-on : goal.returns-in_ok-observe-in-Ceiling-clause-on
+returns-in_ok-observe-in-Ceiling-clause-on c =
+    cut_and_on c.args.context.now c.args.now.now.time c.args.self.now c.cut.new.self c.observe-in-Ceiling.new.self
+    c.in_ok-cut.ensures.on c.in_ok-observe-in-Ceiling.ensures.on
 
 pub returns-in_default-clause-on : goal.returns-in_default-clause-on
 returns-in_default-clause-on c =
@@ -30,6 +30,7 @@ returns-in_ok-act-in-Granted c = record {
   unset = λ is. absurd (cc is);
   others = keeps_from c.args.context.now c.args.fact.now (view_of c.args.self.now) (view_of c.act.new.self)
       (program_at c.cut.new.self) c.in_ok-cut.ensures.same c.in_ok-act-in-Granted.ensures.others;
+  queued = c.in_ok-act-in-Granted.ensures.queued;
   on = cut_and_extended c.args.context.now c.args.now.now.time c.args.self.now c.cut.new.self c.act.new.self
       c.in_ok-cut.ensures.on c.in_ok-act-in-Granted.ensures.on;
   fault = tt;
@@ -43,11 +44,13 @@ returns-in_ok-observe-in-Level-clause-others c =
     (by_observation (program_at c.cut.new.self) (program_at c.observe.new.self) (Base c.in-Some.task c.of_level-prio.result)
     c.in_ok-observe-in-Level.ensures.observed)
 
-pub returns-in_ok-set_ceiling-in-Ceiling-clause-others : goal.returns-in_ok-set_ceiling-in-Ceiling-clause-others
-returns-in_ok-set_ceiling-in-Ceiling-clause-others c =
+pub returns-in_ok-observe-in-Ceiling-clause-others : goal.returns-in_ok-observe-in-Ceiling-clause-others
+returns-in_ok-observe-in-Ceiling-clause-others c =
     ceiling_only c.args.context.now c.args.fact.now (view_of c.args.self.now) (program_at c.cut.new.self)
-    (program_at c.set_ceiling.new.self) c.in-Ceiling.mutex c.in-Ceiling.level (Some c.in-Some-mutex_of.mutex)
-    c.in-Ceiling.is c.in-Some-mutex_of.ensures c.in_ok-cut.ensures.same c.in_ok-set_ceiling-in-Ceiling.ensures.only
+    (program_at c.observe-in-Ceiling.new.self) c.in-Ceiling.mutex c.in-Ceiling.level (Some c.in-Some-mutex_of.mutex)
+    c.in-Ceiling.is c.in-Some-mutex_of.ensures c.in_ok-cut.ensures.same
+    (by_observation (program_at c.cut.new.self) (program_at c.observe-in-Ceiling.new.self)
+    (Ceiling c.in-Some-mutex_of.mutex c.of_level-ceiling.result) c.in_ok-observe-in-Ceiling.ensures.observed)
 
 pub returns-in_default-clause-others : goal.returns-in_default-clause-others
 returns-in_default-clause-others c =
@@ -60,3 +63,15 @@ returns-in_default-mutex_of-clause-others c =
     ceiling_only c.args.context.now c.args.fact.now (view_of c.args.self.now) (program_at c.cut.new.self)
     (program_at c.cut.new.self) c.in-Ceiling.mutex c.in-Ceiling.level None c.in-Ceiling.is c.in_default-mutex_of.ensures
     c.in_ok-cut.ensures.same (none_changed (program_at c.cut.new.self))
+
+pub returns-in_ok-observe-in-Level-clause-queued : goal.returns-in_ok-observe-in-Level-clause-queued
+returns-in_ok-observe-in-Level-clause-queued c = λ m waits. absurd (cc (sym c.in-Level.is ∙ waits))
+
+pub returns-in_ok-observe-in-Ceiling-clause-queued : goal.returns-in_ok-observe-in-Ceiling-clause-queued
+returns-in_ok-observe-in-Ceiling-clause-queued c = λ m waits. absurd (cc (sym c.in-Ceiling.is ∙ waits))
+
+pub returns-in_default-clause-queued : goal.returns-in_default-clause-queued
+returns-in_default-clause-queued c = λ m waits. absurd (cc (sym c.in-Level.is ∙ waits))
+
+pub returns-in_default-mutex_of-clause-queued : goal.returns-in_default-mutex_of-clause-queued
+returns-in_default-mutex_of-clause-queued c = λ m waits. absurd (cc (sym c.in-Ceiling.is ∙ waits))

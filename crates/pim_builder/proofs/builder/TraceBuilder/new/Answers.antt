@@ -9,5 +9,5 @@ returns-clause-shown c =
     let new : TraceBuilder = record { threads = c.in_ok-vec.field-0; mutexes = c.in_ok-vec-2.field-0; pieces = c.new.result; appearances = c.new-2.result } in
     let threads : c.in_ok-vec.field-0.items ≡ nobody c.args.context.now.numbering.now.threads = c.in_ok-vec.ensures.items_if_clones_equal (search rules) ∙ ap (λ n. replicate n None) c.len.ensures in
     let mutexes : c.in_ok-vec-2.field-0.items ≡ nobody c.args.context.now.numbering.now.mutexes = c.in_ok-vec-2.ensures.items_if_clones_equal (search rules) ∙ ap (λ n. replicate n None) c.len-2.ensures in
-    shown_at_begin c.args.context.now new c.in_ok-replay.replay c.new.ensures c.in_ok-replay.ensures.begin
+    shown_at_begin c.args.context.now new c.in_ok-replay.replay c.new.ensures c.in_ok-replay.ensures.begin c.in_ok-replay.ensures.order
     c.new-2.ensures.items threads mutexes

@@ -1,4 +1,4 @@
-use Rattle.std.proofs.Common.{ap, length}
+use Rattle.std.proofs.Common.{ap, length, rules}
 use Rattle.pim_builder.proofs.GoingOn.{piece_begun, times_begun}
 use Rattle.pim_builder.proofs.pieces.Pieces.cut.Goals as goal
 
@@ -8,3 +8,4 @@ returns-clause-on c =
     c.in_ok-begin.ensures.begun
     (times_begun c.args.now.now.time c.new-times.result c.push_times.new.times _ _ c.new-times.ensures
     (ap (λ es. length es) c.entries-restoring.ensures.entries) c.in_ok-push_times.ensures)
+    (search rules)

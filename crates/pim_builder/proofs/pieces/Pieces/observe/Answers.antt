@@ -1,4 +1,4 @@
-use Rattle.std.proofs.Common.{◌∙◌, ◌-◌, ◌++◌, ap, length, refl, replicate}
+use Rattle.std.proofs.Common.{◌∙◌, ◌-◌, ◌++◌, ap, length, refl, replicate, rules}
 use Rattle.pim_replay.specs.declared.piece.Piece.{Piece}
 use Rattle.pim_builder.proofs.GoingOn.{steps_made}
 use Rattle.pim_builder.proofs.pieces.Pieces.observe.Goals as goal
@@ -15,3 +15,4 @@ returns-clause-on c =
     (c.in_ok-push_times.ensures
     ∙ ap (λ es. c.self.inside.piece.times ++ replicate (length es - length c.self.inside.piece.times) c.args.now.now.time)
     c.entries-steps.ensures.entries)
+    (search rules)

@@ -1,5 +1,5 @@
 use Rattle.std.proofs.lemmas.Result.{IfOk-weaker}
-use Rattle.pim_builder.specs.Frames.{program_at}
+use Rattle.pim_builder.specs.Views.{program_at}
 use Rattle.pim_builder.proofs.Framing.{around_base, by_observation}
 use Rattle.pim_builder.proofs.GoingOn.{goes_on_trans}
 use Rattle.pim_builder.proofs.pieces.Pieces.observe_grant.Goals as goal

@@ -1,4 +1,4 @@
-use Rattle.std.proofs.Common.{refl, arith, rules}
+use Rattle.std.proofs.Common.{arith, rules}
 use Rattle.pim_replay.specs.Replays.{KeepsPlace}
 use Rattle.pim_replay.proofs.Ordering.{known_none, known_next, order_of_known}
 use Rattle.pim_replay.proofs.replay.Replay.has_order_of.Goals as goal
@@ -14,7 +14,8 @@ loop-place-preserved c = record {
 
 pub returns : goal.returns
 returns c = (
-  λ _. order_of_known c.args.other.now c.args.self.now (search rules) (search rules)
+  λ _. order_of_known c.args.other.now c.args.self.now c.max-count.result (search rules) (search rules)
+      (grind arith) (grind arith)
       (λ t low high. c.loop-place.invariant.kept t low (search (rules, high))),
   λ _. search rules,
 )

@@ -17,5 +17,5 @@ returns-clause-bases c = λ _. same_lists _ _ 0 (search rules) (λ k low high. c
 
 pub returns-clause-waits : goal.returns-clause-waits
 returns-clause-waits c =
-    λ _. same_waits c.args.self.now c.args.other.now (search rules) (search rules) (search rules) (search rules) (search rules)
+    λ _. same_waits c.args.self.now c.args.other.now (search rules) (search rules) (search rules)
     (λ k low high. c.loop-place.invariant.waits k low (search (rules, high)))

@@ -1,22 +1,48 @@
-use Rattle.std.proofs.Common.{◌≡◌, Bool, true, subst, rules}
-use Rattle.std.specs.Bool.{MatchBool}
-use Rattle.pim_base.specs.Steps.{reply_of}
-use Rattle.pim_base.specs.declared.steps.Reply.{Reply}
-use Rattle.pim_replay.specs.Replays.{ReplayState, IsRefused, lock}
-use Rattle.pim_replay.proofs.Replaying.{joined_same}
-use Rattle.pim_replay.proofs.Stopping.{none_goes_outside}
+use Rattle.std.proofs.Common.{◌≡◌, ◌∙◌, Option, Some, IfSome, ap, rules, subst, sym}
+use Rattle.pim_base.specs.declared.steps.Wait.{Wait}
+use Rattle.pim_replay.specs.Replays.{ReplayState, IsBehindAll, IsNoWait, Stops, mutex_of, program_of, program_wait}
+use Rattle.pim_replay.proofs.Replaying.{asked_same, same_trans}
+use Rattle.pim_replay.proofs.Staying.{Stays, stays_on, stays_withdrawn}
+use Rattle.pim_replay.proofs.Stopping.{stops_after}
 use Rattle.pim_replay.proofs.replay.Replay.join.Goals as goal
 
-pub returns-then-branch-clause-same : goal.returns-then-branch-clause-same
-returns-then-branch-clause-same c =
-    let r : ReplayState = c.args.self.now in
+pub loop-round-preserved : goal.loop-round-preserved
+loop-round-preserved c =
+    let old : ReplayState = c.args.self.now in
+    let now : ReplayState = c.loop-round.self in
+    let next : ReplayState = c.withdraw.new.self in
+    let before = c.loop-round.invariant in
+    let made = c.in_ok-withdraw.ensures.made in
+    let all : Stays old next =
+    stays_on old now next (record { same = before.same; order = before.order; continues = before.continues })
+    (stays_withdrawn now next _ made.0 made.1) in
+    record { same = all.same; order = all.order; continues = all.continues }
+
+pub returns-in_default-clause-same : goal.returns-in_default-clause-same
+returns-in_default-clause-same c =
+    let now : ReplayState = c.loop-round.self in
+    let s : ReplayState = c.queue.new.self in
+    same_trans (program_of c.args.self.now) (program_of now) (program_of s) c.loop-round.invariant.same
+    (asked_same now s c.args.task c.args.mutex c.in_ok-queue.field-0 c.in_ok-queue.ensures.queued)
+
+pub returns-in_default-clause-order : goal.returns-in_default-clause-order
+returns-in_default-clause-order c =
+    let now : ReplayState = c.loop-round.self in
     let t = c.args.task in
     let m = c.args.mutex in
-    let queued = c.in_ok-queue.ensures.queued in
-    let M : Bool → Type 0 = λ b. MatchBool b (reply_of r.state (lock t m) ≡ Reply.Queued) (IsRefused r.state t m) in
-    let yes : c.in_ok-queue.field-0 ≡ true = search (rules, c.if-branch.true) in
-    joined_same r c.queue.new.self c.put_outside.new.self t m queued.1 c.requires (subst M yes queued.2) queued.0 c.put_outside.ensures.kept
+    let w : Wait = record { mutex = m; ticket = c.args.number } in
+    let waits : program_wait now t ≡ Some w = c.loop-round.invariant.same.waits t ∙ c.requires in
+    let behind : IsBehindAll now m w.ticket = c.in_default.ensures.none in
+    let P : Option Wait → Type 0 = λ o. IfSome o (λ v. IsBehindAll now m v.ticket) in
+    λ ok. c.in_ok-queue.ensures.order (ap mutex_of waits) (subst P (sym waits) behind) (c.loop-round.invariant.order ok)
 
-pub returns-then-branch-clause-outside : goal.returns-then-branch-clause-outside
-returns-then-branch-clause-outside c =
-    none_goes_outside c.args.self.now c.queue.new.self c.put_outside.new.self c.args.task c.args.mutex c.in_ok-queue.ensures.queued.0 c.put_outside.ensures.kept
+pub returns-in_err-queue-clause-fault : goal.returns-in_err-queue-clause-fault
+returns-in_err-queue-clause-fault c =
+    let r : ReplayState = c.args.self.now in
+    let s : ReplayState = c.queue.new.self in
+    let t = c.args.task in
+    let m = c.args.mutex in
+    let ends : Stops r (IsNoWait t m) s c.in_err-queue.field-0.0 =
+    stops_after r c.loop-round.self s (IsNoWait t m) (IsNoWait t m) c.in_err-queue.field-0.0
+    c.loop-round.invariant.continues (λ step reply so. so) c.in_err-queue.ensures.fault in
+    search (rules, c.from_residual.ensures, ends)

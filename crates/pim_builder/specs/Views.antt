@@ -1,0 +1,53 @@
+-- What a trace has at a point: who has which number, and the program.
+use Rattle.std.specs.Prelude.{ℕ, List, Option, None, Some, if◌then◌else◌, slice_index_or, unwrap_or}
+use Rattle.pim_base.specs.Lists.{nth, holds}
+use Rattle.pim_replay.specs.Replays.{Program, program_of}
+use Rattle.pim_builder.specs.Pieces.{Point}
+use Rattle.pim_builder.specs.declared.builder.Context.{Context}
+use Rattle.pim_builder.specs.declared.builder.TraceBuilder.{TraceBuilder}
+use Rattle.pim_builder.specs.declared.numbering.Numbers.{Numbers}
+
+-- the number in the trace of a thread or a mutex of the log, if it takes part
+abbrev pub number_in : Numbers → ℕ → Option ℕ
+number_in numbers one = slice_index_or numbers.of_each.items one None
+
+-- who has a number; of mutexes in a program also who owns one
+abbrev pub holder_in : List (Option ℕ) → ℕ → Option ℕ
+holder_in holders number = unwrap_or (nth holders number) None
+
+-- the number, if there is one and this one has it
+abbrev pub held : List (Option ℕ) → ℕ → Option ℕ → Option ℕ
+held holders one None = None
+held holders one (Some number) = if holds (holder_in holders number) one then Some number else None
+
+-- the program at a point
+abbrev pub program_at : Point → Program
+program_at point = program_of point.piece.replay
+
+-- what a trace has at a point: who has each task and each mutex, and the program
+pub record View : Type 0 where
+  pub threads : List (Option ℕ)
+  pub mutexes : List (Option ℕ)
+  pub program : Program
+
+-- the task that a thread is there, and the number that a mutex of the log has
+abbrev pub task_in : Context → View → ℕ → Option ℕ
+task_in context view t = held view.threads t (number_in context.numbering.now.threads t)
+
+abbrev pub mutex_in : Context → View → ℕ → Option ℕ
+mutex_in context view m = held view.mutexes m (number_in context.numbering.now.mutexes m)
+
+-- what the trace that is being made has now
+abbrev pub view_of : TraceBuilder → View
+view_of builder = record {
+  threads = builder.threads.items;
+  mutexes = builder.mutexes.items;
+  program = program_at builder.pieces;
+}
+
+-- the task that a thread is now, and the number that a mutex of the log has
+abbrev pub task_now : Context → TraceBuilder → ℕ → Option ℕ
+task_now context builder = task_in context (view_of builder)
+
+abbrev pub mutex_now : Context → TraceBuilder → ℕ → Option ℕ
+mutex_now context builder = mutex_in context (view_of builder)

@@ -1,0 +1,84 @@
+use Rattle.std.proofs.Common.{◌≡◌, ◌∙◌, ℕ, Option, None, Some, subst, sym}
+use Rattle.std.proofs.lemmas.Result.{IfOk-weaker}
+use Rattle.pim_base.specs.declared.steps.Reply.{Reply}
+use Rattle.pim_replay.specs.Replays.{ReplayState, Program, IsNotReleased, IsOtherwise, IsSame, Observes, StaysInOrder}
+use Rattle.pim_replay.specs.Replays.{given, program_of}
+use Rattle.pim_replay.specs.Replays.{unlock, waiting_for}
+use Rattle.pim_replay.specs.declared.observation.Observation.TheVariants.{Released}
+use Rattle.pim_replay.proofs.Replaying.{freed_same, same_given, same_trans}
+use Rattle.pim_replay.proofs.Staying.{order_freed}
+use Rattle.pim_replay.proofs.Stopping.{fails_after, ok_both, released_same}
+use Rattle.pim_replay.proofs.replay.Replay.hand_on.Goals as goal
+
+pub returns-in-Some-clause-observed : goal.returns-in-Some-clause-observed
+returns-in-Some-clause-observed c =
+    let r : ReplayState = c.args.self.now in
+    let left : ReplayState = c.pass_over.new.self in
+    let s : ReplayState = c.give.new.self in
+    let p : Program = program_of r in
+    let q : Program = program_of left in
+    let m = c.args.mutex in
+    let u = c.in-Some.next in
+    let next : Option ℕ = waiting_for p m c.args.next in
+    let is : Some u ≡ next = sym c.in-Some.is ∙ c.waiting_for-next.ensures in
+    let over = c.in_ok-pass_over.ensures in
+    let P : Option ℕ → Type 0 = λ o. IsSame (given p m o) (program_of s) in
+    ok_both c.give.result (IsSame (given q m (Some u)) (program_of s)) (StaysInOrder left s)
+    (Observes r (Released c.args.task m c.args.next) s)
+    (λ same order. record {
+      same = subst P is (same_trans (given p m (Some u)) (given q m (Some u)) (program_of s)
+          (same_given p q m (Some u) over.same) same);
+      order = λ ok. order (over.order ok);
+    })
+    c.give.ensures.given c.give.ensures.order
+
+pub returns-in-None-clause-observed : goal.returns-in-None-clause-observed
+returns-in-None-clause-observed c =
+    let r : ReplayState = c.args.self.now in
+    let left : ReplayState = c.pass_over.new.self in
+    let s : ReplayState = c.require_free.new.self in
+    let p : Program = program_of r in
+    let q : Program = program_of left in
+    let t = c.args.task in
+    let m = c.args.mutex in
+    let next : Option ℕ = waiting_for p m c.args.next in
+    let is : None ≡ next = sym c.in-None.is ∙ c.waiting_for-next.ensures in
+    let over = c.in_ok-pass_over.ensures in
+    let P : Option ℕ → Type 0 = λ o. IsSame (given p m o) (program_of s) in
+    IfOk-weaker c.require_free.result _ _
+    (λ _ made. record {
+      same = subst P is (same_trans (given p m None) (given q m None) (program_of s) (same_given p q m None over.same)
+          (freed_same left s t m made.0 made.1));
+      order = λ ok. order_freed left s t m made.0 made.1 (over.order ok);
+    })
+    c.require_free.ensures.made
+
+pub returns-in-Some-clause-fault : goal.returns-in-Some-clause-fault
+returns-in-Some-clause-fault c =
+    let r : ReplayState = c.args.self.now in
+    let left : ReplayState = c.pass_over.new.self in
+    let p : Program = program_of r in
+    let q : Program = program_of left in
+    let t = c.args.task in
+    let m = c.args.mutex in
+    let u = c.in-Some.next in
+    let next : Option ℕ = waiting_for p m c.args.next in
+    let is : Some u ≡ next = sym c.in-Some.is ∙ c.waiting_for-next.ensures in
+    fails_after r left c.give.new.self (IsNotReleased q t m (Some u)) (IsNotReleased p t m next) c.give.result
+    c.in_ok-pass_over.ensures.continues
+    (λ step reply so. subst (λ (o : Option ℕ). IsNotReleased p t m o step reply) is
+    (released_same p q t m (Some u) c.in_ok-pass_over.ensures.same step reply so))
+    c.give.ensures.fault
+
+pub returns-in-None-clause-fault : goal.returns-in-None-clause-fault
+returns-in-None-clause-fault c =
+    let r : ReplayState = c.args.self.now in
+    let p : Program = program_of r in
+    let t = c.args.task in
+    let m = c.args.mutex in
+    let next : Option ℕ = waiting_for p m c.args.next in
+    let is : None ≡ next = sym c.in-None.is ∙ c.waiting_for-next.ensures in
+    fails_after r c.pass_over.new.self c.require_free.new.self (IsOtherwise (unlock t m) Reply.Freed)
+    (IsNotReleased p t m next) c.require_free.result
+    c.in_ok-pass_over.ensures.continues
+    (λ step reply so. subst (λ (o : Option ℕ). IsNotReleased p t m o step reply) is so) c.require_free.ensures.fault

@@ -1,0 +1,20 @@
+use Rattle.std.proofs.Common.{ℕ, subst}
+use Rattle.std.proofs.lemmas.Result.{IfOk-weaker}
+use Rattle.pim_replay.specs.Replays.{ReplayState, Observes}
+use Rattle.pim_replay.specs.declared.observation.Observation.TheVariants.{Base}
+use Rattle.pim_replay.proofs.Replaying.{base_same}
+use Rattle.pim_replay.proofs.Staying.{order_set_base}
+use Rattle.pim_replay.proofs.replay.Replay.set_base.Goals as goal
+
+pub returns-clause-observed : goal.returns-clause-observed
+returns-clause-observed c =
+    let r : ReplayState = c.args.self.now in
+    let s : ReplayState = c.require.new.self in
+    let a = c.idle_task-actor.result in
+    let t = c.args.task in
+    let level = c.get.result in
+    let P : ℕ → Type 0 = λ k. Observes r (Base t k) s in
+    IfOk-weaker c.require.result _ _
+    (λ _ made. subst P c.get.ensures.value
+    (record { same = base_same r s a t level made.0 made.1; order = order_set_base r s a t level made.0 made.1 }))
+    c.require.ensures.made
