@@ -1,3 +1,5 @@
+pub mod SharingLemmas
+pub mod CrowdedLemmas
 pub mod Joining
 pub mod GoingOn
 pub mod Extending

@@ -1,3 +1,4 @@
+pub mod Sharing
 pub mod Faults
 pub mod Showing
 pub mod Pieces

@@ -1,6 +1,7 @@
-//! Why a log isn't imported.
+//! Why a log isn't imported, and why spans don't get numbers.
 ghost use Rattle.std.specs.Prelude.{◌≡◌};
 ghost use Rattle.pim_builder.specs.declared.fault.ImportFault.TheVariants as import;
+ghost use Rattle.pim_builder.specs.declared.fault.SharingFault.TheVariants as sharing;
 
 use std::alloc::AllocError;
 use thiserror::Error;
@@ -31,5 +32,27 @@ impl From<AllocError> for ImportFault {
 
     fn from(_error: AllocError) -> ImportFault {
         ImportFault::Memory
+    }
+}
+
+/// Why spans don't get numbers.
+#[derive(Clone, Copy, Debug, PartialEq, Eq, Error)]
+pub enum SharingFault {
+    /// The span at this index begins before the one in front of it.
+    #[error("index {0}: it begins before the one in front of it")]
+    OutOfOrder(usize),
+    /// When the span at this index begins, as many earlier ones last as there are numbers.
+    #[error("index {0}: too many last at one time")]
+    Crowded(usize),
+    /// Out of memory.
+    #[error("out of memory")]
+    Memory,
+}
+
+impl From<AllocError> for SharingFault {
+    ghost from_gives = { λ _ fault. fault ≡ sharing.Memory };
+
+    fn from(_error: AllocError) -> SharingFault {
+        SharingFault::Memory
     }
 }

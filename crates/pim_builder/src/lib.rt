@@ -25,6 +25,16 @@
 //! It is proved that each further piece begins with the owners, waits, bases, protocols and order
 //! of waiters with which the one before it ends (specs/Pieces.antt).
 //!
+//! A trace has numbers for 256 tasks and 256 mutexes. [`share`] gives numbers to more than that,
+//! if few exist at one time: each thread or mutex has a [`Span`], from the first record that names
+//! it to the last, and two may have the same number if the span of one ends before that of the
+//! other begins. specs/Sharing.antt defines it.
+//!
+//! ```text
+//! let spans = [Span { first: 1, last: 4 }, Span { first: 2, last: 9 }, Span { first: 5, last: 7 }];
+//! let numbers = share(alloc, &spans, 256)?; // 0, 1, 0: the third begins after the first has ended
+//! ```
+//!
 //! [`numbers_law`] has no code: its contract says that no two threads, and no two
 //! mutexes, have one number at a time.
 #![tactic(auto)]
@@ -36,10 +46,14 @@ mod laws;
 mod numbering;
 mod participants;
 mod pieces;
+mod sharing;
 mod showing;
+mod span;
 
 pub use builder::{Appearance, Context, Now, TraceBuilder, Who};
-pub use fault::ImportFault;
+pub use fault::{ImportFault, SharingFault};
 pub use laws::numbers_law;
 pub use numbering::{Numbering, Numbers};
 pub use participants::{Participant, Participants};
+pub use sharing::share;
+pub use span::Span;

@@ -3,13 +3,14 @@ ghost use Rattle.std.specs.Prelude.{IfErr, ◌≡◌};
 ghost use Rattle.pim_builder.specs.Faults.{NamesNone};
 ghost use Rattle.pim_builder.specs.Views.{number_in};
 
-use crate::fault::ImportFault;
+use crate::fault::{ImportFault, SharingFault};
 use crate::participants::{Participant, Participants};
+use crate::sharing::share;
+use crate::span::Span;
 use pim_base::{MAX_MUTEXES, MAX_TASKS};
 use pim_course::{Sources, family_of};
 use pim_facts::Family;
 use pim_facts::lists::push;
-use pim_replay::{SharingFault, Span, share};
 use std::alloc::{AllocError, Global};
 
 /// The numbers that threads and mutexes have in a trace.

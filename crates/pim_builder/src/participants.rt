@@ -1,6 +1,6 @@
 //! Who takes part in the trace, and from when to when.
 
-use pim_replay::Span;
+use crate::span::Span;
 
 /// When a thread or a mutex takes part, and what it has as it begins to.
 #[derive(Clone, Copy, PartialEq, Eq)]

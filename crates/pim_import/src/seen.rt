@@ -1,10 +1,9 @@
 //! Who takes part in the trace, as far as its records were looked at.
 
 use crate::critical_sections::CriticalSections;
-use pim_builder::{Participant, Participants};
+use pim_builder::{Participant, Participants, Span};
 use pim_course::{Course, Sources, Walk};
 use pim_facts::{Fact, What};
-use pim_replay::Span;
 use std::alloc::{AllocError, Global};
 
 /// What a record shows of a thread and a mutex.

@@ -1,6 +1,7 @@
-//! pim_replay: spans of a few records and their numbers, and levels of a log and their priorities.
+//! pim_builder: spans of a few records and their numbers. pim_replay: levels of a log and their priorities.
 
-use pim_replay::{Priorities, Scale, SharingFault, Span, share};
+use pim_builder::{SharingFault, Span, share};
+use pim_replay::{Priorities, Scale};
 use std::alloc::{AllocError, Global};
 use std::test::*;
 

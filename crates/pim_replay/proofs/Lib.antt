@@ -1,5 +1,3 @@
-pub mod SharingLemmas
-pub mod CrowdedLemmas
 pub mod Replaying
 pub mod Stopping
 pub mod Queueing

@@ -1,4 +1,3 @@
-pub mod Sharing
 pub mod Replays
 pub mod Priorities
 pub mod LeavingOut

@@ -15,16 +15,6 @@
 //! A trace ends after 65,536 steps: [`restored`] begins the next [`Piece`] with the state at the
 //! end of the one before.
 //!
-//! A trace has numbers for 256 tasks and 256 mutexes. [`share`] gives numbers to more than that,
-//! if few exist at one time: each thread or mutex has a [`Span`], from the first record that names
-//! it to the last, and two may have the same number if the span of one ends before that of the
-//! other begins. specs/Sharing.antt defines it.
-//!
-//! ```text
-//! let spans = [Span { first: 1, last: 4 }, Span { first: 2, last: 9 }, Span { first: 5, last: 7 }];
-//! let numbers = share(alloc, &spans, 256)?; // 0, 1, 0: the third begins after the first has ended
-//! ```
-//!
 //! [`Priorities`] has the priorities that the levels of a log become.
 //!
 //! The functions of `laws` have no code. Their contracts say why a trace may be without some of
@@ -42,17 +32,13 @@ mod piece;
 mod priorities;
 mod replay;
 mod restoring;
-mod sharing;
-mod span;
 mod times;
 
-pub use fault::{ReplayFault, SharingFault};
+pub use fault::ReplayFault;
 pub use laws::{beside_law, leaving_out_law, renamed_run_law, renaming_law, unawaited_law};
 pub use observation::Observation;
 pub use piece::Piece;
 pub use priorities::{Priorities, Scale};
 pub use replay::Replay;
 pub use restoring::restored;
-pub use sharing::share;
-pub use span::Span;
 pub use times::Times;

@@ -1,8 +1,8 @@
 -- Numbers that spans of records share.
 use Rattle.std.specs.Prelude.{◌≡◌, ◌≢◌, ℕ, ◌<◌, ◌≤◌, List, length, slice_index, slice_index_or, ◌-◌}
-use Rattle.pim_replay.specs.declared.span.Span.{Span}
-use Rattle.pim_replay.specs.declared.fault.SharingFault.{SharingFault}
-use Rattle.pim_replay.specs.declared.fault.SharingFault.TheVariants.{OutOfOrder, Crowded, Memory}
+use Rattle.pim_builder.specs.declared.span.Span.{Span}
+use Rattle.pim_builder.specs.declared.fault.SharingFault.{SharingFault}
+use Rattle.pim_builder.specs.declared.fault.SharingFault.TheVariants.{OutOfOrder, Crowded, Memory}
 
 -- the span at an index
 abbrev pub span_at : List Span → ℕ → Span

@@ -4,8 +4,8 @@ use Rattle.std.proofs.Common.{subst, inl, inr, arith, get_or-set_other, length-s
 use Rattle.std.proofs.lemmas.Bool.{cases_eq}
 use Rattle.std.proofs.lemmas.Grind.{get_or-set_at}
 use Rattle.std.proofs.lemmas.List.{length-replicate}
-use Rattle.pim_replay.specs.declared.span.Span.{Span}
-use Rattle.pim_replay.specs.Sharing.{span_at, AreShared, IsCrowded}
+use Rattle.pim_builder.specs.declared.span.Span.{Span}
+use Rattle.pim_builder.specs.Sharing.{span_at, AreShared, IsCrowded}
 
 -- the first spans have numbers, and each number in use has the latest of its spans
 pub record IsSharing (spans : List Span) (limit end used : ℕ) (latest numbers : List ℕ) : Type 0 where

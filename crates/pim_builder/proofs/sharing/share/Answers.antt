@@ -1,7 +1,7 @@
 use Rattle.std.proofs.Common.{rules, arith, ◌<◌, ◌≤◌}
-use Rattle.pim_replay.proofs.SharingLemmas.{IsFree, sharing-none, sharing-next, sharing-all, crowded}
-use Rattle.pim_replay.proofs.CrowdedLemmas.{crowded-cannot}
-use Rattle.pim_replay.proofs.sharing.share.Goals as goal
+use Rattle.pim_builder.proofs.SharingLemmas.{IsFree, sharing-none, sharing-next, sharing-all, crowded}
+use Rattle.pim_builder.proofs.CrowdedLemmas.{crowded-cannot}
+use Rattle.pim_builder.proofs.sharing.share.Goals as goal
 
 pub loop-span-init : goal.loop-span-init
 loop-span-init c =

@@ -1,7 +1,7 @@
 //! Numbers that spans share.
 ghost use Rattle.std.specs.Prelude.{◌≡◌, ◌<◌, ◌≤◌, ◌-◌, ℕ, length, slice_index, MatchResult};
 ghost use Rattle.std.specs.Bool.{MatchBool};
-ghost use Rattle.pim_replay.specs.Sharing.{span_at, AreShared, IsFault, IsOutOfOrder};
+ghost use Rattle.pim_builder.specs.Sharing.{span_at, AreShared, IsFault, IsOutOfOrder};
 
 use crate::fault::SharingFault;
 use crate::span::Span;

@@ -2,8 +2,8 @@
 use Rattle.std.proofs.Common.{◌≢◌, ℕ, zero, suc, ◌<◌, ◌≤◌, ◌==◌, if◌then◌else◌, List, length, get_or, sym, inl, inr, arith}
 use Rattle.std.proofs.lemmas.Bool.{cases_lt}
 use Rattle.std.proofs.lemmas.Bool.Decides.{nat_tests}
-use Rattle.pim_replay.specs.declared.span.Span.{Span}
-use Rattle.pim_replay.specs.Sharing.{span_at, AreShared, IsCrowded, CannotShare}
+use Rattle.pim_builder.specs.declared.span.Span.{Span}
+use Rattle.pim_builder.specs.Sharing.{span_at, AreShared, IsCrowded, CannotShare}
 
 -- v in place of n, and each other number as it is
 abbrev replaced : ℕ → ℕ → ℕ → ℕ
