@@ -18,8 +18,10 @@ use Rattle.pim_replay.proofs.Replaying.{same_refl}
 use Rattle.pim_builder.specs.Showing.{HoldsOf, IsSetting, JoinsQueueBy}
 use Rattle.pim_builder.specs.Views.{View, held, holder_in, mutex_in, number_in, task_in}
 use Rattle.pim_builder.specs.Frames.{BeginsAsMutex, BeginsAsTask, Changed, ChangesOnly, ChangesThose, KeepsOthers}
-use Rattle.pim_builder.specs.Frames.{HasNothing, IsUnused, MutexBegins, Nobody, OnlyClears, OnlyFrees, OnlyEntersMutex, OnlyEntersThread, OnlyLeaves, TaskBegins}
-use Rattle.pim_builder.specs.Frames.{ChangesBy, changed_by, changed_by_fact}
+use Rattle.pim_builder.specs.Frames.{HasNothing, IsUnused, MutexBegins, Nobody, OnlyClears, OnlyFrees, OnlyEntersMutex}
+use Rattle.pim_builder.specs.Frames.{OnlyEntersThread, OnlyLeaves, TaskBegins}
+use Rattle.pim_builder.specs.Frames.{AllJoinBy, ChangesBy, changed_by, changed_by_fact}
+use Rattle.pim_builder.specs.Pieces.{AllJoinAt, Point}
 use Rattle.pim_builder.specs.declared.builder.Context.{Context}
 use Rattle.pim_builder.proofs.Framing.{by_observation, frees_on, frees_refl, only_on, only_weaker, same_only}
 
@@ -46,6 +48,7 @@ enters_no_thread context t v = record {
       (λ n. (k : ℕ) × (holder_in v.program.owner n ≡ Some k) × BeginsAsTask context v v t k) Nobody
       v.program v.program (same_refl v.program);
   anew = λ k begins. absurd (none-some k (sym begins.0 ∙ begins.1));
+  frees = frees_refl v.program;
 }
 
 -- a task that has nothing has nothing after a change of no wait and no owner
@@ -70,6 +73,17 @@ unused_on n base ceiling p q only unused = record {
   waits = λ k waits. unused.waits k (sym (ap replays.mutex_of (only.wait k (λ e. none-some k e))) ∙ waits);
 }
 
+-- nobody becomes an owner or begins to wait by such a change
+freed_on :
+    (base ceiling : Option ℕ) (p q r : Program)
+    → OnlyFrees p q
+    → ChangesThose (record { base = base; wait = None; owner = None; ceiling = ceiling }) q r
+    → OnlyFrees p r
+freed_on base ceiling p q r freed only = frees_on p q r freed (record {
+  owners = λ n. inl (only.owner n (λ e. none-some n e));
+  waits = λ k. inl (only.wait k (λ e. none-some k e));
+})
+
 pub enters_thread :
     (context : Context) (t k task : ℕ) (early late : View) (mid : Program)
     → task_in context early t ≡ None
@@ -79,9 +93,10 @@ pub enters_thread :
     → late.mutexes ≡ early.mutexes
     → OnlyLeaves k early.program mid
     → HasNothing k mid
+    → OnlyFrees early.program mid
     → ChangesThose (record { base = Some task; wait = None; owner = None; ceiling = None }) mid late.program
     → OnlyEntersThread context t early late
-enters_thread context t k task early late mid none number now threads mutexes left nothing based =
+enters_thread context t k task early late mid none number now threads mutexes left nothing freed based =
     let Begins : ℕ → Type 0 = BeginsAsTask context early late t in
     let same : k ≡ task = held_is late.threads t (number_in context.numbering.now.threads t) k task number now in
     let begins : Begins k = (none, now ∙ ap Some (sym same)) in
@@ -103,6 +118,7 @@ enters_thread context t k task early late mid none number now threads mutexes le
       anew = λ j here.
           subst (λ i. HasNothing i late.program) (same ∙ same_Some task j (sym now ∙ here.1))
           (nothing_on k (Some task) None mid late.program based nothing);
+      frees = freed_on (Some task) None early.program mid late.program freed based;
     }
 
 -- ---- a mutex
@@ -151,10 +167,7 @@ enters_mutex context m n number early late mid none numbered now mutexes threads
       anew = λ j here.
           subst (λ i. IsUnused i late.program) (same ∙ same_Some number j (sym now ∙ here.1))
           (unused_on n None (Some number) mid late.program set unused);
-      frees = frees_on early.program mid late.program freed (record {
-        owners = λ j. inl (set.owner j (λ e. none-some j e));
-        waits = λ k. inl (set.wait k (λ e. none-some k e));
-      });
+      frees = freed_on None (Some number) early.program mid late.program freed set;
     }
 
 -- ---- a fact
@@ -194,6 +207,14 @@ is_some_or (Some m) n = elim (cases_eq m n) [
   | inr ne ↦ inr (λ e. ne (same_Some m n e))
 ]
 
+-- a mutex has its owner still, or none
+abbrev OwnerKept : Program → Program → ℕ → Type 0
+OwnerKept p q n = (nth q.owner n ≡ nth p.owner n) ⊎ (holder_in q.owner n ≡ None)
+
+owner_kept : (p q r : Program) (n : ℕ) → OwnerKept p q n → nth r.owner n ≡ nth q.owner n → OwnerKept p r n
+owner_kept p q r n (inl before) same = inl (same ∙ before)
+owner_kept p q r n (inr none) same = inr (ap (λ o. unwrap_or o None) same ∙ none)
+
 -- its thread and its mutex take their numbers, and then it changes what it does
 pub acts_only :
     (context : Context) (fact : Fact) (m : ℕ) (a b c : View) (q : Program) (numbered : Changed)
@@ -206,6 +227,9 @@ pub acts_only :
     → IsLatest context fact c.program (record c { program = q })
     → KeepsOthers context fact a (record c { program = q })
 acts_only context fact m a b c q numbered its acts first second are last latest = record {
+  owners = λ n not. owner_kept a.program c.program q n
+      ((frees_on a.program b.program c.program first.frees second.frees).owners n)
+      (last.owner n (λ e. not (are.owner ∙ e)));
   latest = latest_from context fact a.program c.program (record c { program = q })
       (omega (arith, first.program.next, second.program.next)) latest;
   anew = record {
@@ -343,7 +367,11 @@ module _ (context : Context) (fact : Fact) (m k n : ℕ) (a b c : View) (q : Pro
       (subst (λ w. AreOf context c (changed_by_fact w fact.thread) (changed_by o)) (sym is) are) last latest
 
   -- a fact that begins no wait
-  none_latest : (w : What) → fact.what ≡ w → ((l : ℕ) → w ≢ what.Waits l) → IsLatest context fact c.program (record c { program = q })
+  none_latest :
+      (w : What)
+      → fact.what ≡ w
+      → ((l : ℕ) → w ≢ what.Waits l)
+      → IsLatest context fact c.program (record c { program = q })
   none_latest w is other l waits = absurd (other l (sym is ∙ waits))
 
   pub grants_only :
@@ -367,7 +395,8 @@ module _ (context : Context) (fact : Fact) (m k n : ℕ) (a b c : View) (q : Pro
       (subst (λ o. IfSome o (λ w. c.program.next ≤ w.ticket)) (sym begun) (omega arith)))
     where
       begun : q.waits k ≡ Some (record { mutex = n; ticket = c.program.next })
-      begun = same.waits k ∙ ap (λ y. cond y (Some (record { mutex = n; ticket = c.program.next })) (c.program.waits k)) (eq-eqb k k refl)
+      begun = same.waits k
+          ∙ ap (λ y. cond y (Some (record { mutex = n; ticket = c.program.next })) (c.program.waits k)) (eq-eqb k k refl)
 
   -- whoever begins to wait is in the queue, if it may
   pub waits_joined :
@@ -377,6 +406,19 @@ module _ (context : Context) (fact : Fact) (m k n : ℕ) (a b c : View) (q : Pro
   waits_joined r joined l e =
       subst (HoldsOf (λ i. HoldsOf (IsQueuedIfItMay r i) (mutex_in context c l))) (sym here)
       (subst (HoldsOf (IsQueuedIfItMay r k)) (sym (there (what.Waits l) l e refl)) joined)
+
+  -- all who wait for the mutex join its queue, if the fact gives it
+  pub all_joined :
+      (w : What) (l : ℕ) (p r : Point)
+      → fact.what ≡ w
+      → mutex_of w ≡ Some l
+      → (changed_by_fact w fact.thread).owner ≡ Some l
+      → AllJoinAt p r n
+      → AllJoinBy p r (mutex_in context c) fact.what fact.thread
+  all_joined w l p r is has owner joined =
+      subst (λ w. AllJoinBy p r (mutex_in context c) w fact.thread) (sym is)
+      (subst (λ o. IfSome (option_and_then (mutex_in context c) o) (AllJoinAt p r)) (sym owner)
+      (subst (λ o. IfSome o (AllJoinAt p r)) (sym (there w l is has)) joined))
 
   pub gives_up_only :
       (l : ℕ)
@@ -413,6 +455,7 @@ sets_only context fact a p q numbered other setting are same only = record {
     owner = λ n begins. absurd (begins.0 setting);
     waiters = λ n k begins. absurd (begins.0 setting);
   };
+  owners = λ n not. inl (only.owner n (λ e. not (are.owner ∙ e)) ∙ ap (λ (xs : List (Option ℕ)). nth xs n) same.owner);
   latest = λ l waits. absurd (other l waits);
   threads = λ j h. refl;
   mutexes = λ j h. refl;
@@ -438,6 +481,10 @@ keeps_from context fact a d p same keeps = record {
     owner = keeps.anew.owner;
     waiters = keeps.anew.waiters;
   };
+  owners = λ n not. elim (keeps.owners n not) [
+    | inl before ↦ inl (before ∙ ap (λ (xs : List (Option ℕ)). nth xs n) same.owner)
+    | inr none ↦ inr none
+  ];
   latest = latest_from context fact a.program p d (omega (arith, same.next)) keeps.latest;
   threads = λ j h. keeps.threads j h;
   mutexes = λ j h. keeps.mutexes j h;

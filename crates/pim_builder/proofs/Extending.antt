@@ -8,9 +8,9 @@ use Rattle.pim_facts.specs.declared.fact.Fact.{Fact}
 use Rattle.pim_replay.specs.Priorities.{priority_of}
 use Rattle.pim_replay.specs.declared.piece.Piece.{Piece}
 use Rattle.pim_replay.specs.Replays.{IsInOrder, ReplayState}
-use Rattle.pim_builder.specs.Frames.{KeepsOthers}
+use Rattle.pim_builder.specs.Frames.{AllJoinBy, KeepsOthers}
 use Rattle.pim_builder.specs.Views.{program_at, view_of}
-use Rattle.pim_builder.specs.Pieces.{Point, GoesOn, EndWith, HasTimes, steps_of}
+use Rattle.pim_builder.specs.Pieces.{AllJoinAt, Point, GoesOn, EndWith, HasTimes, steps_of}
 use Rattle.pim_builder.specs.Showing.{Joins, JoinsQueueBy, ShowsWhat, SetsNone, Shows}
 use Rattle.pim_builder.specs.Views.{number_in, held, task_now, mutex_now}
 use Rattle.pim_builder.specs.Shown.{as_thread, as_mutex, given_to, taken_by, holders_after, nobody, threads_after}
@@ -23,6 +23,7 @@ use Rattle.pim_builder.specs.declared.builder.Who.{Who}
 use Rattle.pim_builder.specs.declared.builder.Who.TheVariants.{Thread, Mutex}
 use Rattle.pim_builder.specs.declared.numbering.Numbers.{Numbers}
 use Rattle.pim_builder.proofs.GoingOn.{goes_on_refl, goes_on_trans, more_steps}
+use Rattle.pim_builder.proofs.KeepingQueues.{all_join_since}
 
 -- ---- who has a number
 
@@ -109,6 +110,17 @@ pub acted :
 acted context time a b c p first second on =
     extends_trans context time a c (record c { pieces = p }) (extends_trans context time a b c first second)
     (extends_steps context time c p on)
+
+-- all who join a queue since then join it since before these appeared
+pub joined_acted :
+    (context : Context) (time : ℕ) (a b c : TraceBuilder) (p : Point) (n : ℕ)
+    → Extends context time a b
+    → Extends context time b c
+    → AllJoinAt c.pieces p n
+    → AllJoinAt a.pieces p n
+joined_acted context time a b c p n first second =
+    let on : GoesOn time a.pieces c.pieces = (extends_trans context time a b c first second).leads.point in
+    all_join_since a.pieces c.pieces p n on.reached on.order
 
 -- one appears before the next step
 one_appears :
@@ -238,10 +250,11 @@ pub shown_more :
     → (is_used ≡ false → SetsNone (task_now context b) (mutex_now context b) fact.what fact.thread)
     → KeepsOthers context fact (view_of a) (view_of b)
     → Joins context b fact
+    → AllJoinBy a.pieces b.pieces (mutex_now context b) fact.what fact.thread
     → (facts : List Dated)
     → AreShown context facts a
     → AreShown context (record { fact = fact; time = time } ∷ facts) b
-shown_more context fact time a b is_used extends shows unset keeps joins facts shown =
+shown_more context fact time a b is_used extends shows unset keeps joins given facts shown =
     record {
       holders = extends.holders shown.holders;
       shown = (
@@ -256,6 +269,9 @@ shown_more context fact time a b is_used extends shows unset keeps joins facts s
         by_holders context b (extends.holders shown.holders) (λ ts ms.
             JoinsQueueBy b.pieces.piece.replay (λ t. held ts t (number_in context.numbering.now.threads t))
             (λ m. held ms m (number_in context.numbering.now.mutexes m)) fact.what fact.thread) joins,
+        by_holders context b (extends.holders shown.holders) (λ ts ms.
+            AllJoinBy a.pieces b.pieces (λ m. held ms m (number_in context.numbering.now.mutexes m)) fact.what fact.thread)
+            given,
       );
     }
   where

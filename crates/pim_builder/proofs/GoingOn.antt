@@ -8,7 +8,8 @@ use Rattle.pim_replay.specs.Replays.{ReplayState, Continues, StaysInOrder}
 use Rattle.pim_replay.specs.declared.piece.Piece.{Piece}
 use Rattle.pim_replay.proofs.Replaying.{continues_refl, continues_trans}
 use Rattle.pim_builder.specs.Pieces.{Point, EndWith, IsContinued, IsIn, Reaches, HasTimes, times_of, GoesOn}
-use Rattle.pim_builder.specs.Pieces.{own_steps, steps_of}
+use Rattle.pim_builder.specs.Pieces.{KeepsQueues, own_steps, steps_of}
+use Rattle.pim_builder.proofs.KeepingQueues.{keeps_queues_refl, keeps_queues_trans}
 
 -- ---- a piece that goes on
 
@@ -60,6 +61,7 @@ goes_on_refl time p = record {
   times = sym (append-nil (times_of p));
   timed = λ t. t;
   order = λ order. order;
+  queues = keeps_queues_refl p;
 }
 
 pub goes_on_trans : (time : ℕ) (p q r : Point) → GoesOn time p q → GoesOn time q r → GoesOn time p r
@@ -73,6 +75,7 @@ goes_on_trans time p q r a b = record {
       ∙ ap (λ ts. times_of p ++ ts) (replicate-append-replicate a.further b.further time);
   timed = λ t. b.timed (a.timed t);
   order = λ order. b.order (a.order order);
+  queues = keeps_queues_trans p q r a.reached b.reached a.order a.queues b.queues;
 }
 
 -- ---- how many steps
@@ -102,8 +105,9 @@ pub steps_made :
     → Continues old.replay new.replay
     → new.times ≡ old.times ++ replicate (length new.replay.entries - length old.times) time
     → StaysInOrder old.replay new.replay
+    → KeepsQueues (record { before = ended; piece = old }) (record { before = ended; piece = new })
     → GoesOn time p q
-steps_made time ended old new p q is then same on times order =
+steps_made time ended old new p q is then same on times order queues =
     subst (λ p. GoesOn time p q) is (subst (GoesOn time (record { before = ended; piece = old })) then made)
   where
     further : ℕ
@@ -123,6 +127,7 @@ steps_made time ended old new p q is then same on times order =
       times = ap (λ ts. before ++ ts) times ∙ sym (append_assoc before old.times (replicate further time));
       timed = λ timed. omega (arith, timed, count, longer old.replay new.replay on);
       order = order;
+      queues = queues;
     }
 
 -- the piece ends, and the next one begins
@@ -132,8 +137,10 @@ pub piece_begun :
     → q.piece ≡ next
     → next.times ≡ replicate (length next.replay.entries) time
     → StaysInOrder p.piece.replay next.replay
+    → KeepsQueues p q
     → GoesOn time p q
-piece_begun time p q next ended is times order = record {
+piece_begun time p q next ended is times order queues = record {
+  queues = queues;
   order = subst (λ (piece : Piece). StaysInOrder p.piece.replay piece.replay) (sym is) order;
   reached = inr (record { piece = p.piece; others = []; all = ended; continued = continued_refl p.piece });
   further = length next.replay.entries;

@@ -9,6 +9,7 @@ use Rattle.pim_facts.specs.declared.fact.What.TheVariants as what
 use Rattle.pim_replay.specs.Replays.{Program, awaits}
 use Rattle.pim_replay.specs.declared.observation.Observation.{Observation}
 use Rattle.pim_replay.specs.declared.observation.Observation.TheVariants as observation
+use Rattle.pim_builder.specs.Pieces.{AllJoinAt, Point}
 use Rattle.pim_builder.specs.Showing.{HoldsOf, IsSetting}
 use Rattle.pim_builder.specs.Views.{View, holder_in, mutex_in, task_in}
 use Rattle.pim_builder.specs.declared.builder.Context.{Context}
@@ -83,6 +84,11 @@ changed_by_fact (what.Released m next) t = record { base = None; wait = next; ow
 changed_by_fact (what.Level level) t = record { base = Some t; wait = None; owner = None; ceiling = None }
 changed_by_fact (what.Ceiling m level) t = record { base = None; wait = None; owner = None; ceiling = Some m }
 
+-- Whoever waits at the later point for the mutex that a fact gives to an owner, or frees, is in its queue, unless it has no
+-- owner, or the model refused that meanwhile: `mutexes` has the numbers of the log's mutexes.
+abbrev pub AllJoinBy : Point → Point → (ℕ → Option ℕ) → What → ℕ → Type 0
+AllJoinBy p q mutexes what t = IfSome (option_and_then mutexes (changed_by_fact what t).owner) (AllJoinAt p q)
+
 -- thread t begins to be task k between two points
 abbrev pub BeginsAsTask : Context → View → View → ℕ → ℕ → Type 0
 BeginsAsTask context early late t k = (task_in context early t ≡ None) × (task_in context late t ≡ Some k)
@@ -92,7 +98,7 @@ abbrev pub BeginsAsMutex : Context → View → View → ℕ → ℕ → Type 0
 BeginsAsMutex context early late m n = (mutex_in context early m ≡ None) × (mutex_in context late m ≡ Some n)
 
 -- A thread takes its task, if it hasn't. No more changes than who has this task, its base, its wait, and the owners of the
--- mutexes that it owned. The task has nothing then.
+-- mutexes that it owned. The task has nothing then, and nobody has become an owner or begun to wait.
 pub record OnlyEntersThread (context : Context) (t : ℕ) (early late : View) : Type 0 where
   pub threads : (k : ℕ) → ¬ BeginsAsTask context early late t k → nth late.threads k ≡ nth early.threads k
   pub mutexes : late.mutexes ≡ early.mutexes
@@ -101,6 +107,7 @@ pub record OnlyEntersThread (context : Context) (t : ℕ) (early late : View) : 
       (λ n. (k : ℕ) × (holder_in early.program.owner n ≡ Some k) × BeginsAsTask context early late t k) Nobody
       early.program late.program
   pub anew : (k : ℕ) → BeginsAsTask context early late t k → HasNothing k late.program
+  pub frees : OnlyFrees early.program late.program
 
 -- A mutex of the log takes its number, if it hasn't. No more changes than which mutex has this number, its owner, its
 -- protocol, and the waits for it. The number is unused then, and nobody has become an owner or begun to wait.
@@ -142,8 +149,8 @@ pub record BeginAnew (context : Context) (fact : Fact) (early late : View) : Typ
 
 -- No more changes from one point of a trace to another than what a fact changes, and of its thread and its mutex, if they
 -- begin to have a number: who has the number, the base and the wait of that task and who owns what it owned, the owner and
--- the protocol of that mutex and who waits for it. A wait that the fact begins has a later number than each before it, and
--- whoever begins to have a number begins anew.
+-- the protocol of that mutex and who waits for it. No mutex but the fact's gets an owner, a wait that the fact begins has a
+-- later number than each before it, and whoever begins to have a number begins anew.
 pub record KeepsOthers (context : Context) (fact : Fact) (early late : View) : Type 0 where
   pub threads : (k : ℕ) → ¬ TaskBegins context fact early late k → nth late.threads k ≡ nth early.threads k
   pub mutexes : (n : ℕ) → ¬ MutexBegins context fact early late n → nth late.mutexes n ≡ nth early.mutexes n
@@ -157,6 +164,9 @@ pub record KeepsOthers (context : Context) (fact : Fact) (early late : View) : T
       ⊎ ((k : ℕ) × (holder_in early.program.owner n ≡ Some k) × TaskBegins context fact early late k)))
       (λ n. (option_and_then (mutex_in context late) c.ceiling ≡ Some n) ⊎ MutexBegins context fact early late n)
       early.program late.program
+  pub owners :
+      (n : ℕ) → option_and_then (mutex_in context late) (changed_by_fact fact.what fact.thread).owner ≢ Some n →
+      (nth late.program.owner n ≡ nth early.program.owner n) ⊎ (holder_in late.program.owner n ≡ None)
   pub latest :
       (m : ℕ) → fact.what ≡ what.Waits m →
       HoldsOf (λ k. IfSome (late.program.waits k) (λ w. early.program.next ≤ w.ticket)) (task_in context late fact.thread)

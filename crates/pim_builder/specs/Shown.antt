@@ -6,7 +6,7 @@ use Rattle.pim_facts.specs.declared.fact.Fact.{Fact}
 use Rattle.pim_replay.specs.Priorities.{priority_of}
 use Rattle.pim_replay.specs.declared.piece.Piece.{Piece}
 use Rattle.pim_replay.specs.Replays.{IsInOrder}
-use Rattle.pim_builder.specs.Frames.{KeepsOthers}
+use Rattle.pim_builder.specs.Frames.{AllJoinBy, KeepsOthers}
 use Rattle.pim_builder.specs.Pieces.{Point, GoesOn, EndWith, HasTimes, steps_of}
 use Rattle.pim_builder.specs.Showing.{JoinsQueueBy, ShowsWhat, SetsNone}
 use Rattle.pim_builder.specs.Views.{View, mutex_in, number_in, program_at, task_in}
@@ -110,7 +110,8 @@ IsShownAt context fact stage =
 
 -- A trace comes from its begin to this stage by these facts, the latest first: from the stage of the one before the latest,
 -- or from the begin, by steps at the time of the latest, which is shown here. What this fact isn't about stays. Those in
--- a queue have tickets in the order in which they began to wait; whoever begins to wait is queued, if the model allows it.
+-- a queue have tickets in the order in which they began to wait; whoever begins to wait is queued, if the model allows it,
+-- and so are all who wait for a mutex that the fact gives to an owner.
 abbrev pub AreShownBy : Context → List Dated → Stage → Type 0
 AreShownBy context [] now = IsBegin now
 AreShownBy context (latest ∷ facts) now =
@@ -118,6 +119,7 @@ AreShownBy context (latest ∷ facts) now =
     × IsShownAt context latest.fact now × KeepsOthers context latest.fact (view_at context before) (view_at context now)
     × IsInOrder now.point.piece.replay
     × JoinsQueueBy now.point.piece.replay (task_at context now) (mutex_at context now) latest.fact.what latest.fact.thread
+    × AllJoinBy before.point now.point (mutex_at context now) latest.fact.what latest.fact.thread
 
 -- the same of the pieces of a trace and of all who appear in it: it ends at the stage of the latest fact
 abbrev pub AreShownIn : Context → List Dated → List Piece → List Appearance → Type 0

@@ -1,11 +1,11 @@
 //! The steps that go before and after those of a fact, so that the model allows it.
 ghost use Rattle.std.specs.Prelude.{◌≡◌, ◌≢◌, ℕ, IfErr, IfOk, IfSome, None, Some};
 ghost use Rattle.pim_base.specs.Lists.{nth};
-ghost use Rattle.pim_replay.specs.Replays.{awaits};
+ghost use Rattle.pim_replay.specs.Replays.{IsGiven, awaits};
 ghost use Rattle.pim_replay.specs.declared.observation.Observation.TheVariants as observation;
 ghost use Rattle.pim_builder.specs.Faults.{NamesOnly};
 ghost use Rattle.pim_builder.specs.Frames.{ChangesBy, HasNothing, IsUnused, OnlyClears, OnlyFrees, OnlyLeaves};
-ghost use Rattle.pim_builder.specs.Pieces.{GoesOn};
+ghost use Rattle.pim_builder.specs.Pieces.{AllJoinAt, GoesOn};
 ghost use Rattle.pim_builder.specs.Views.{program_at};
 
 use crate::builder::Now;
@@ -65,6 +65,7 @@ impl Pieces {
     ) -> Result<(), ImportFault>
         ensures only { IfOk result (λ _.
             ChangesBy observation.now (program_at self.old) (program_at self.new)) }
+        ensures given { IfOk result (λ _. (n : ℕ) → IsGiven observation.now n → AllJoinAt self.old self.new n) }
         ensures on { IfOk result (λ _. GoesOn now.now.time self.old self.new) }
         ensures fault { IfErr result (NamesOnly now.now.number) }
     {
@@ -99,6 +100,7 @@ impl Pieces {
     pub(crate) fn leave(&mut self, task: TaskNo, now: &Now) -> Result<(), ImportFault>
         ensures only { IfOk result (λ _. OnlyLeaves task (program_at self.old) (program_at self.new)) }
         ensures left { IfOk result (λ _. HasNothing task (program_at self.new)) }
+        ensures frees { IfOk result (λ _. OnlyFrees (program_at self.old) (program_at self.new)) }
         ensures on { IfOk result (λ _. GoesOn now.now.time self.old self.new) }
         ensures fault { IfErr result (NamesOnly now.now.number) }
     {
@@ -114,6 +116,7 @@ impl Pieces {
         ensures only { IfOk result (λ _. OnlyLeaves task (program_at self.old) (program_at self.new)) }
         ensures left { IfOk result (λ _. (program_at self.old).waits task ≡ None →
             HasNothing task (program_at self.new)) }
+        ensures frees { IfOk result (λ _. OnlyFrees (program_at self.old) (program_at self.new)) }
         ensures on { IfOk result (λ _. GoesOn now.now.time self.old self.new) }
         ensures fault { IfErr result (NamesOnly now.now.number) }
     {

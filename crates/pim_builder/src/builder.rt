@@ -6,7 +6,7 @@ ghost use Rattle.pim_base.specs.Lists as lists;
 ghost use Rattle.pim_facts.specs.Shown.{mutex_of};
 ghost use Rattle.pim_builder.specs.Faults.{NamesNone, NamesOnly};
 ghost use Rattle.pim_replay.specs.Replays.{IsInOrder};
-ghost use Rattle.pim_builder.specs.Frames.{KeepsOthers, OnlyEntersMutex, OnlyEntersThread};
+ghost use Rattle.pim_builder.specs.Frames.{AllJoinBy, KeepsOthers, OnlyEntersMutex, OnlyEntersThread};
 ghost use Rattle.pim_builder.specs.Pieces.{AreJoined, EndWith, HasTimes};
 ghost use Rattle.pim_builder.specs.Showing.{IsSetting, Joins, SetsNone, Shows};
 ghost use Rattle.pim_builder.specs.Views.{holder_in, mutex_now, number_in, task_now, view_of};
@@ -106,7 +106,8 @@ impl TraceBuilder {
     ///
     /// Behind the steps nothing is other than before but those whom the fact is about, those whose numbers
     /// go to its thread or its mutex, what that task owned, and who waited for that mutex. A task that begins to wait is
-    /// in the queue, unless the mutex has no owner or the model refuses the wait.
+    /// in the queue, unless the mutex has no owner or the model refuses the wait. So is each that waits for a mutex that
+    /// the fact gives to an owner, and each that was in a queue and still waits.
     ///
     /// Each step that is made has the time of `now`. Who appears does so before one of these steps,
     /// or behind them.
@@ -122,6 +123,8 @@ impl TraceBuilder {
         ensures others { IfOk result (λ _.
             KeepsOthers context.now fact.now (view_of self.old) (view_of self.new)) }
         ensures queued { IfOk result (λ _. Joins context.now self.new fact.now) }
+        ensures given { IfOk result (λ _. AllJoinBy self.old.pieces self.new.pieces
+            (mutex_now context.now self.new) fact.now.what fact.now.thread) }
         ensures fault { IfErr result (NamesOnly now.now.number) }
     {
         let is_used = self.make(context, fact, now)?;
@@ -162,6 +165,8 @@ impl TraceBuilder {
         ensures others { IfOk result (λ _.
             KeepsOthers context.now fact.now (view_of self.old) (view_of self.new)) }
         ensures queued { IfOk result (λ _. Joins context.now self.new fact.now) }
+        ensures given { IfOk result (λ _. AllJoinBy self.old.pieces self.new.pieces
+            (mutex_now context.now self.new) fact.now.what fact.now.thread) }
         ensures on { IfOk result (λ _. Extends context.now now.now.time self.old self.new) }
         ensures fault { IfErr result (NamesOnly now.now.number) }
     {
@@ -207,6 +212,8 @@ impl TraceBuilder {
         ensures others { IfOk result (λ _.
             KeepsOthers context.now fact.now (view_of self.old) (view_of self.new)) }
         ensures queued { IfOk result (λ _. Joins context.now self.new fact.now) }
+        ensures given { IfOk result (λ _. AllJoinBy self.old.pieces self.new.pieces
+            (mutex_now context.now self.new) fact.now.what fact.now.thread) }
         ensures on { IfOk result (λ _. Extends context.now now.now.time self.old self.new) }
         ensures fault { IfErr result (NamesOnly now.now.number) }
     {

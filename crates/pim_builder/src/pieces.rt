@@ -1,8 +1,8 @@
 //! The pieces of the trace as they are made.
-ghost use Rattle.std.specs.Prelude.{◌≡◌, ◌-◌, ◌++◌, [], All, IfErr, IfOk, IsTrue, length, replicate};
-ghost use Rattle.pim_replay.specs.Replays.{IsSame, JoinsQueue, KeepsOrder, StaysTheSame, observed, program_of};
+ghost use Rattle.std.specs.Prelude.{◌≡◌, ◌-◌, ◌++◌, ℕ, [], All, IfErr, IfOk, IsTrue, length, replicate};
+ghost use Rattle.pim_replay.specs.Replays.{IsGiven, IsSame, JoinsQueue, KeepsOrder, StaysTheSame, observed, program_of};
 ghost use Rattle.pim_builder.specs.Faults.{NamesOnly};
-ghost use Rattle.pim_builder.specs.Pieces.{AreJoined, EndWith, GoesOn, HasTimes, own_steps, steps_of};
+ghost use Rattle.pim_builder.specs.Pieces.{AllJoinAt, AreJoined, EndWith, GoesOn, HasTimes, own_steps, steps_of};
 
 use crate::builder::Now;
 use crate::fault::ImportFault;
@@ -86,6 +86,7 @@ impl Pieces {
         ensures observed { IfOk result (λ _.
             IsSame (observed (program_of self.old.piece.replay) observation.now) (program_of self.new.piece.replay)) }
         ensures queued { IfOk result (λ _. JoinsQueue observation.now self.new.piece.replay) }
+        ensures given { IfOk result (λ _. (n : ℕ) → IsGiven observation.now n → AllJoinAt self.old self.new n) }
         ensures on { IfOk result (λ _. GoesOn now.now.time self.old self.new) }
         ensures fault { IfErr result (NamesOnly now.now.number) }
     {

@@ -39,7 +39,7 @@ pub nth-past : {X : Type 0} (xs : List X) (n : ℕ) → length xs < n → nth xs
 nth-past xs zero h = absurd (omega arith)
 nth-past xs (suc i) h = slice_get_past xs i (omega arith)
 
-program_wait-past :
+pub program_wait-past :
     (r : ReplayState) (t : ℕ)
     → length r.waits ≡ length r.state.base
     → length r.state.base < t

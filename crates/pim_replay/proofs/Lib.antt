@@ -2,9 +2,12 @@ pub mod Replaying
 pub mod Stopping
 pub mod Queueing
 pub mod Staying
+pub mod Joining
 pub mod PriorityLemmas
 pub mod Comparing
 pub mod Ordering
+pub mod Counting
+pub mod Outside
 mod Unawaited
 mod Beside
 mod Leaving

@@ -131,7 +131,7 @@ shown_queue T m o ws shown some = go (unknown_mutex T m) (sym some ∙ shown)
     go true e = absurd (none-some ws (sym e))
     go false e = same_Some ws (queue_of T m) e
 
--- a waiter that is shown waits
+-- a waiter that is shown waits for m
 pub shown_waits :
     (r : ReplayState) (S T : State) (m : ℕ) (ws : List Waiter) (w : Waiter) (o : Option (List Waiter))
     → S ≡ r.state
@@ -140,12 +140,12 @@ pub shown_waits :
     → o ≡ of_mutex T m (queue_of T m)
     → o ≡ Some ws
     → Contains ws w
-    → IsSome (wait_of r.state w.task)
+    → mutex_of (wait_of r.state w.task) ≡ Some m
 shown_waits r S T m ws w o first second steady shown some among =
     let all : IsSteady T = subst IsSteady (first ∙ sym second) steady in
     let there : Contains (queue_of T m) w =
     subst (λ (xs : List Waiter). Contains xs w) (shown_queue T m o ws shown some) among in
-    subst IsSome (sym (among_waits T w.task m w.ticket w all there refl refl) ∙ ap (λ x. wait_of x w.task) second) refl
+    ap (λ x. mutex_of (wait_of x w.task)) (sym second) ∙ ap mutex_of (among_waits T w.task m w.ticket w all there refl refl)
 
 -- if all waiters that are shown began to wait before this number, so did all who wait for m
 pub shown_behind :

@@ -54,6 +54,52 @@ earlier_by f g t u first second e = go (f t) (f u) (g t) (g u) first second e
         → IfSome c (λ x. IfSome d (λ y. x.ticket < y.ticket))
     go a b c d x y e = rw x (rw y e)
 
+-- two tasks whose waits have one number are the same one
+abbrev AreApart : (ℕ → Option Wait) → ℕ → ℕ → Type 0
+AreApart waits t u = IfSome (waits t) (λ a. IfSome (waits u) (λ b. a.ticket ≡ b.ticket → t ≡ u))
+
+apart_by : (f g : ℕ → Option Wait) (t u : ℕ) → g t ≡ f t → g u ≡ f u → AreApart f t u → AreApart g t u
+apart_by f g t u first second e = go (f t) (f u) (g t) (g u) first second e
+  where
+    go :
+        (a b c d : Option Wait) → c ≡ a → d ≡ b → IfSome a (λ x. IfSome b (λ y. x.ticket ≡ y.ticket → t ≡ u))
+        → IfSome c (λ x. IfSome d (λ y. x.ticket ≡ y.ticket → t ≡ u))
+    go a b c d x y e = rw x (rw y e)
+
+same_apart : (waits : ℕ → Option Wait) (t u : ℕ) → t ≡ u → AreApart waits t u
+same_apart waits t u is = go (waits t) (waits u)
+  where
+    go : (a b : Option Wait) → IfSome a (λ x. IfSome b (λ y. x.ticket ≡ y.ticket → t ≡ u))
+    go None b = tt
+    go (Some x) None = tt
+    go (Some x) (Some y) = λ e. is
+
+other_apart : (waits : ℕ → Option Wait) (t u : ℕ) → AreApart waits t u → AreApart waits u t
+other_apart waits t u apart = go (waits t) (waits u) apart
+  where
+    go :
+        (a b : Option Wait) → IfSome a (λ x. IfSome b (λ y. x.ticket ≡ y.ticket → t ≡ u))
+        → IfSome b (λ y. IfSome a (λ x. y.ticket ≡ x.ticket → u ≡ t))
+    go None None h = tt
+    go None (Some y) h = tt
+    go (Some x) None h = tt
+    go (Some x) (Some y) h = λ e. sym (h (sym e))
+
+-- one wait has a number from this one on, and the other a lower one
+below_apart :
+    (waits : ℕ → Option Wait) (t u from : ℕ)
+    → IfSome (waits t) (λ w. from ≤ w.ticket)
+    → IfSome (waits u) (λ w. w.ticket < from)
+    → AreApart waits t u
+below_apart waits t u from high low = go (waits t) (waits u) high low
+  where
+    go :
+        (a b : Option Wait) → IfSome a (λ w. from ≤ w.ticket) → IfSome b (λ w. w.ticket < from)
+        → IfSome a (λ x. IfSome b (λ y. x.ticket ≡ y.ticket → t ≡ u))
+    go None b high low = tt
+    go (Some x) None high low = tt
+    go (Some x) (Some y) high low = λ e. absurd (omega (arith, e, high, low))
+
 -- the program has the same waits
 same_waits_order :
     (r s : ReplayState)
@@ -65,6 +111,7 @@ same_waits_order :
     → IsInOrder s
 same_waits_order r s waits next queued order ok = record {
   numbered = λ t. numbered (program_wait r t) (program_wait s t) (waits t) (ok.numbered t);
+  apart = λ t u. apart_by (program_wait r) (program_wait s) t u (waits t) (waits u) (ok.apart t u);
   queued = λ t. IfSome_then (wait_of s.state t) (queued t) (λ w is. ap mutex_of (waits t) ∙ is);
   order = λ t u together earlier.
       earlier_by (program_wait r) (program_wait s) t u (waits t) (waits u) (order t u together earlier);
@@ -104,17 +151,19 @@ in_order_left r s waits next left ok =
         (together.0, sym (ap mutex_of first) ∙ together.1, sym (ap mutex_of second) ∙ together.2)
         (earlier_by (wait_of s.state) (wait_of r.state) t u (sym first) (sym second) earlier)
 
--- a task that is in no queue waits for something else, with the number of no later wait
+-- a task that is in no queue waits for something else, with the number of the next wait or a later one, but below the next
 in_order_put :
     (r s : ReplayState) (t : ℕ) (o : Option Wait)
     → s.state ≡ r.state
     → s.waits ≡ put r.waits t o
     → r.next ≤ s.next
+    → IfSome o (λ w. r.next ≤ w.ticket)
     → IfSome o (λ w. w.ticket < s.next)
     → wait_of r.state t ≡ None
     → StaysInOrder r s
-in_order_put r s t o state waits next below idle ok = record {
+in_order_put r s t o state waits next new_one below idle ok = record {
   numbered = λ u. numbered u (item_put r.waits t u o);
+  apart = λ u v. apart u v (item_put r.waits t u o) (item_put r.waits t v o);
   queued = λ u. queued u (cases_eq u t);
   order = λ u v together earlier.
       order u v (together.0, sym (ap mutex_of (queue u)) ∙ together.1, sym (ap mutex_of (queue v)) ∙ together.2)
@@ -147,6 +196,27 @@ in_order_put r s t o state waits next below idle ok = record {
         subst Numbered (sym (at u ∙ old))
         (IfSome_then (program_wait r u) (ok.numbered u) (λ w less. omega (arith, less, next)))
 
+    Put : ℕ → Type 0
+    Put u =
+        ((u ≡ t) × ((item (put r.waits t o) u ≡ o) ⊎ (item (put r.waits t o) u ≡ None)))
+        ⊎ ((u ≢ t) × (item (put r.waits t o) u ≡ item r.waits u))
+
+    -- the task that was put, and another
+    beside : (u v : ℕ) → (item (put r.waits t o) u ≡ o) ⊎ (item (put r.waits t o) u ≡ None)
+        → item (put r.waits t o) v ≡ item r.waits v → AreApart (program_wait s) u v
+    beside u v (inl is) old =
+        below_apart (program_wait s) u v r.next (subst (λ x. IfSome x (λ w. r.next ≤ w.ticket)) (sym (at u ∙ is)) new_one)
+        (subst (λ x. IfSome x (λ w. w.ticket < r.next)) (sym (at v ∙ old)) (ok.numbered v))
+    beside u v (inr none) old =
+        subst (λ x. IfSome x (λ a. IfSome (program_wait s v) (λ b. a.ticket ≡ b.ticket → u ≡ v))) (sym (at u ∙ none)) tt
+
+    apart : (u v : ℕ) → Put u → Put v → AreApart (program_wait s) u v
+    apart u v (inl (here, new)) (inl (too, also)) = same_apart (program_wait s) u v (here ∙ sym too)
+    apart u v (inl (here, new)) (inr (ne, old)) = beside u v new old
+    apart u v (inr (ne, old)) (inl (here, new)) = other_apart (program_wait s) v u (beside v u new old)
+    apart u v (inr (ne, old)) (inr (also, too)) =
+        apart_by (program_wait r) (program_wait s) u v (at u ∙ old) (at v ∙ too) (ok.apart u v)
+
     queued : (u : ℕ) → (u ≡ t) ⊎ (u ≢ t) → IfSome (wait_of s.state u) (λ w. awaited s u ≡ Some w.mutex)
     queued u (inl is) =
         subst (λ x. IfSome x (λ w. awaited s u ≡ Some w.mutex)) (sym (queue u ∙ ap (wait_of r.state) is ∙ idle)) tt
@@ -165,13 +235,13 @@ in_order_put r s t o state waits next below idle ok = record {
 pub in_order_ended : (r s : ReplayState) (t : ℕ) → s ≡ without_wait r t → wait_of r.state t ≡ None → StaysInOrder r s
 in_order_ended r s t is idle =
     in_order_put r s t None (ap (λ x. x.state) is) (ap (λ x. x.waits) is)
-    (subst (λ (x : ReplayState). r.next ≤ x.next) (sym is) (omega arith)) tt idle
+    (subst (λ (x : ReplayState). r.next ≤ x.next) (sym is) (omega arith)) tt tt idle
 
 -- a task in no queue begins to wait
 pub in_order_begun : (r s : ReplayState) (t m : ℕ) → s ≡ begun r t m → wait_of r.state t ≡ None → StaysInOrder r s
 in_order_begun r s t m is idle =
     in_order_put r s t (Some (record { mutex = m; ticket = r.next })) (ap (λ x. x.state) is) (ap (λ x. x.waits) is)
-    (subst (λ (x : ReplayState). r.next ≤ x.next) (sym is) (omega arith))
+    (subst (λ (x : ReplayState). r.next ≤ x.next) (sym is) (omega arith)) (omega arith)
     (subst (λ (x : ReplayState). r.next < x.next) (sym is) (omega arith)) idle
 
 -- its wait is behind all
@@ -305,6 +375,9 @@ none_waits n (suc i) = none-replicate n i
 pub in_order_start : (S : State) → ((t : ℕ) → wait_of S t ≡ None) → IsInOrder (at_start S)
 in_order_start S idle = record {
   numbered = λ t. subst (λ o. IfSome o (λ (w : Wait). w.ticket < 1)) (sym (waits t)) tt;
+  apart = λ t u.
+      subst (λ o. IfSome o (λ a. IfSome (program_wait (at_start S) u) (λ b. a.ticket ≡ b.ticket → t ≡ u)))
+      (sym (waits t)) tt;
   queued = λ t. subst (λ o. IfSome o (λ (w : Wait). awaited (at_start S) t ≡ Some w.mutex)) (sym (idle t)) tt;
   order = λ t u together earlier. absurd (none-some together.0 (sym (ap mutex_of (idle t)) ∙ together.1));
 }

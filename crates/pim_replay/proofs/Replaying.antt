@@ -70,7 +70,7 @@ granted_owner S t m e other =
     ∙ ap (λ b. cond b (with_count S m (count_of S m + 1)) (with_owner S m (Some t))) (not_both (is_recursive (protocol_of S m)) (holds (owner_of S m) t) (not_held (owner_of S m) t other))
 
 -- an unlock that isn't refused, of a mutex that isn't kept, has the reply of the queue
-unlocked :
+pub unlocked :
     (S : State) (t m : ℕ) (r : Reply)
     → reply_of S (unlock t m) ≡ r
     → ((refusal : Refusal) → r ≢ Reply.Refused refusal)

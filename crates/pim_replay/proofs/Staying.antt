@@ -179,10 +179,10 @@ queued_wait S t m lists e =
 -- a task that locks what it waits for is in the queue then, or refused
 pub queued_if_it_may : (r s : ReplayState) (t m : ℕ) (queues : Bool) → IsQueued r t m queues s → IsQueuedIfItMay s t m
 queued_if_it_may r s t m true asked =
-    inl (
+    inl (inl (
     ap (λ (x : ReplayState). mutex_of (wait_of x.state t)) asked.0
     ∙ ap (λ T. mutex_of (wait_of T t)) (ap (after_reply r.state t (Op.Lock m)) asked.2)
-    ∙ ap mutex_of (queued_wait r.state t m asked.1 asked.2))
+    ∙ ap mutex_of (queued_wait r.state t m asked.1 asked.2)))
 queued_if_it_may r s t m false asked =
     let same : s.state ≡ r.state = ap (λ (x : ReplayState). x.state) asked.0 ∙ asked.2.unchanged in
-    inr (inr (subst (λ S. IsRefusedWait S t m) (sym same) asked.2.refused))
+    inr (subst (λ S. IsRefusedWait S t m) (sym same) asked.2.refused)

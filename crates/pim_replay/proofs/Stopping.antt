@@ -13,7 +13,7 @@ use Rattle.pim_base.specs.declared.steps.Step.{Step}
 use Rattle.pim_base.specs.declared.steps.Wait.{Wait}
 use Rattle.pim_base.proofs.Places.{nth_within}
 use Rattle.pim_replay.specs.Replays.{ReplayState, Program, Continues, IsSame, mutex_of, program_of, program_wait, given, with_step, cancel}
-use Rattle.pim_replay.specs.Replays.{EndsWith, Stops, IsWait, IsNoWait, IsNoReturn, IsNotBack, IsNotReleased, MayTake}
+use Rattle.pim_replay.specs.Replays.{EndsWith, Stops, IsWait, IsNoWait, IsNoReturn, IsNotReleased, MayTake}
 use Rattle.pim_replay.specs.declared.fault.ReplayFault.{ReplayFault}
 use Rattle.pim_replay.specs.declared.fault.ReplayFault.TheVariants.{Contradiction, Memory}
 use Rattle.pim_replay.proofs.Replaying.{continues_refl, continues_trans, same_awaits, same_given}
@@ -80,16 +80,18 @@ not_wait_refused reply refusal is deadlock ceiling (inr (inl so)) =
 not_wait_refused reply refusal is deadlock ceiling (inr (inr so)) =
     let same : Reply.Refused refusal ≡ Reply.Refused Refusal.Ceiling = sym is ∙ so in ceiling (cc same)
 
--- ---- two facts of a call that succeeds
+-- ---- four facts of a call that succeeds
 
-pub ok_both :
-    {X : Type 0} (result : Result X ReplayFault) (A B C : Type 0)
-    → (A → B → C)
+pub ok_four :
+    {X : Type 0} (result : Result X ReplayFault) (A B C D E : Type 0)
+    → (A → B → C → D → E)
     → IfOk result (λ _. A)
     → IfOk result (λ _. B)
     → IfOk result (λ _. C)
-ok_both (Ok x) A B C both a b = both a b
-ok_both (Err e) A B C both a b = tt
+    → IfOk result (λ _. D)
+    → IfOk result (λ _. E)
+ok_four (Ok x) A B C D E all a b c d = all a b c d
+ok_four (Err e) A B C D E all a b c d = tt
 
 -- ---- the tasks that wait
 
@@ -101,9 +103,6 @@ pub returns_same :
     → IsNoReturn q m step reply
     → IsNoReturn p m step reply
 returns_same p q m is step reply so = (so.0, sym (same_awaits p q so.0 is) ∙ so.1, so.2)
-
-pub back_same : (p q : Program) → IsSame p q → (step : Step) (reply : Reply) → IsNotBack q step reply → IsNotBack p step reply
-back_same p q is step reply so = (so.0, returns_same p q so.0 is step reply so.1)
 
 -- so is why a mutex isn't released
 pub released_same :

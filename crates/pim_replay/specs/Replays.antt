@@ -1,6 +1,7 @@
 -- What is known of a recorded program while a manager does what was observed of it.
-use Rattle.std.specs.Prelude.{◌≡◌, ◌≢◌, ◌⊎◌, ◌+◌, ◌<◌, ℕ, ◌==◌, nat_lt, ◌&&◌, ◌||◌, Bool, List, [], ◌∷◌, ◌++◌, length}
+use Rattle.std.specs.Prelude.{◌≡◌, ◌≢◌, ◌⊎◌, ◌+◌, ◌-◌, ◌<◌, ◌≤◌, ℕ, ◌==◌, nat_lt, ◌&&◌, ◌||◌, Bool, List, [], ◌∷◌, ◌++◌, length}
 use Rattle.std.specs.Prelude.{replicate, Option, Some, None, IsSome, IfSome, unwrap_or, if◌then◌else◌}
+use Rattle.std.specs.Prelude.{is_some, sum_by}
 use Rattle.std.specs.Bool.{MatchBool}
 use Rattle.std.specs.Option.{option_map}
 use mathlib.Core.List.{IsPrefix}
@@ -9,6 +10,7 @@ use Rattle.pim_base.specs.State.{State, IsState, IsTask, owner_of, wait_of}
 use Rattle.pim_base.specs.Steps.{reply_of, after}
 use Rattle.pim_base.specs.Texts.{Trace}
 use Rattle.pim_base.specs.Recordings.{recording}
+use Rattle.pim_base.specs.Runs.{IsRun}
 use Rattle.pim_base.specs.declared.limits.TheConstants.{LAST_VERSION}
 use Rattle.pim_base.specs.declared.steps.Protocol.{Protocol}
 use Rattle.pim_base.specs.declared.steps.Op.{Op}
@@ -73,6 +75,7 @@ abbrev pub IsQueued : ReplayState → ℕ → ℕ → Bool → ReplayState → T
 IsQueued r t m queued s =
     (s ≡ with_step r (lock t m)) × IsState r.state
     × MatchBool queued (reply_of r.state (lock t m) ≡ Reply.Queued) (IsRefused r.state t m)
+    × IsRun r.start r.entries r.state
 
 -- the task waits for nothing in the program
 abbrev pub without_wait : ReplayState → ℕ → ReplayState
@@ -85,6 +88,22 @@ begun r t m = record r { waits = put r.waits t (Some (record { mutex = m; ticket
 -- the same start, and further steps
 abbrev pub Continues : ReplayState → ReplayState → Type 0
 Continues r s = (s.start ≡ r.start) × IsPrefix r.entries s.entries
+
+-- how many of these are waits
+abbrev pub waits_among : List (Option Wait) → ℕ
+waits_among = sum_by (λ wait. if is_some wait then 1 else 0)
+
+-- how many tasks are in queues after this reply if n were before, to a step that releases one mutex at most
+abbrev pub queued_after : ℕ → Reply → ℕ
+queued_after n Reply.Granted = n
+queued_after n Reply.Queued = n + 1
+queued_after n Reply.Kept = n
+queued_after n Reply.Freed = n
+queued_after n (Reply.Handed t) = n - 1
+queued_after n (Reply.Released k) = n
+queued_after n Reply.Withdrawn = n - 1
+queued_after n Reply.Set = n
+queued_after n (Reply.Refused refusal) = n
 
 -- the mutex of a wait
 abbrev pub mutex_of : Option Wait → Option ℕ
@@ -162,11 +181,12 @@ WaitTogether waits t u = (m : ℕ) × (mutex_of (waits t) ≡ Some m) × (mutex_
 abbrev pub IsEarlier : (ℕ → Option Wait) → ℕ → ℕ → Type 0
 IsEarlier waits t u = IfSome (waits t) (λ a. IfSome (waits u) (λ b. a.ticket < b.ticket))
 
--- Queues are in the order in which the waits began: each wait has a lower number than the next one, a task in a queue waits
--- for that mutex in the program, and of two in one queue the one with the lower ticket began to wait first. So those of one
--- priority stand in this order.
+-- Queues are in the order in which the waits began: each wait has a number of its own, lower than that of the next one, a
+-- task in a queue waits for that mutex in the program, and of two in one queue the one with the lower ticket began to wait
+-- first. So those of one priority stand in this order.
 pub record IsInOrder (r : ReplayState) : Type 0 where
   pub numbered : (t : ℕ) → IfSome (program_wait r t) (λ w. w.ticket < r.next)
+  pub apart : (t u : ℕ) → IfSome (program_wait r t) (λ a. IfSome (program_wait r u) (λ b. a.ticket ≡ b.ticket → t ≡ u))
   pub queued : (t : ℕ) → IfSome (wait_of r.state t) (λ w. awaited r t ≡ Some w.mutex)
   pub order :
       (t u : ℕ) → WaitTogether (wait_of r.state) t u → IsEarlier (wait_of r.state) t u → IsEarlier (program_wait r) t u
@@ -175,24 +195,78 @@ pub record IsInOrder (r : ReplayState) : Type 0 where
 abbrev pub StaysInOrder : ReplayState → ReplayState → Type 0
 StaysInOrder r s = IsInOrder r → IsInOrder s
 
+-- whoever is in the queue of m stays in it
+abbrev pub KeepsQueue : ReplayState → ReplayState → ℕ → Type 0
+KeepsQueue r s m = (t : ℕ) → mutex_of (wait_of r.state t) ≡ Some m → mutex_of (wait_of s.state t) ≡ Some m
+
+-- so is whoever is there and began to wait before a wait with this number
+abbrev pub KeepsEarlier : ReplayState → ReplayState → ℕ → ℕ → Type 0
+KeepsEarlier r s m number =
+    (t : ℕ) (wait : Wait) → program_wait r t ≡ Some wait → wait.ticket < number → mutex_of (wait_of r.state t) ≡ Some m →
+    mutex_of (wait_of s.state t) ≡ Some m
+
+-- t waits for m outside of the queues, by a wait with this number or a later one
+abbrev pub IsOutside : ReplayState → ℕ → ℕ → ℕ → Wait → Type 0
+IsOutside r t m from wait =
+    (program_wait r t ≡ Some wait) × (wait.mutex ≡ m) × (from ≤ wait.ticket) × (wait_of r.state t ≡ None)
+
 -- whoever is in the queue of m began to wait before a wait with this number
 abbrev pub IsBehindAll : ReplayState → ℕ → ℕ → Type 0
 IsBehindAll r m number =
     (u : ℕ) → mutex_of (wait_of r.state u) ≡ Some m → IfSome (program_wait r u) (λ w. w.ticket < number)
 
--- t is in the queue of m, unless m has no owner or the model refuses that
+-- t is in the queue of m, unless m has no owner
+abbrev pub IsQueuedIfOwned : ReplayState → ℕ → ℕ → Type 0
+IsQueuedIfOwned r t m = (mutex_of (wait_of r.state t) ≡ Some m) ⊎ (owner_of r.state m ≡ None)
+
+-- the same, or the model refuses that wait
 abbrev pub IsQueuedIfItMay : ReplayState → ℕ → ℕ → Type 0
-IsQueuedIfItMay r t m =
-    (mutex_of (wait_of r.state t) ≡ Some m) ⊎ ((owner_of r.state m ≡ None) ⊎ IsRefusedWait r.state t m)
+IsQueuedIfItMay r t m = IsQueuedIfOwned r t m ⊎ IsRefusedWait r.state t m
 
 -- so is a task that was observed to begin to wait
 abbrev pub JoinsQueue : Observation → ReplayState → Type 0
 JoinsQueue o s = (t m : ℕ) → o ≡ Waits t m → IsQueuedIfItMay s t m
 
--- the program has what was observed, is the same in all else, and its queues stay in order
+-- the model refused that t waits for m in a step since r, before which the program was as it is now
+pub record WasRefused (r now : ReplayState) (t m : ℕ) : Type 0 where
+  pub asked : ReplayState
+  pub run : IsRun asked.start asked.entries asked.state
+  pub since : Continues r asked
+  pub refused : IsRefusedWait asked.state t m
+  pub made : Continues (with_step asked (lock t m)) now
+  pub same : IsSame (program_of asked) (program_of now)
+
+-- t is in the queue of m, unless m has no owner, or the model refused that wait since r
+abbrev pub IsBack : ReplayState → ReplayState → ℕ → ℕ → Type 0
+IsBack r now t m = IsQueuedIfOwned now t m ⊎ WasRefused r now t m
+
+-- whoever waits as before is back, if it was queued or the mutex had no owner
+abbrev pub StayQueued : ReplayState → ReplayState → Type 0
+StayQueued r s =
+    IsInOrder r → (t m : ℕ) → program_wait s t ≡ program_wait r t → awaited s t ≡ Some m → IsQueuedIfOwned r t m →
+    IsBack r s t m
+
+-- so is whoever waits for this mutex, also a task whose wait the model refused before
+abbrev pub AllJoin : ReplayState → ReplayState → ℕ → Type 0
+AllJoin r s m = IsInOrder r → (t : ℕ) → awaited s t ≡ Some m → IsBack r s t m
+
+-- the observation says who owns the mutex, or that nobody does
+abbrev pub IsGiven : Observation → ℕ → Type 0
+IsGiven (Granted t n) m = n ≡ m
+IsGiven (Waits t n) m = ⊥
+IsGiven (GaveUp t) m = ⊥
+IsGiven (Released t n next) m = n ≡ m
+IsGiven (Base t level) m = ⊥
+IsGiven (Ceiling n level) m = ⊥
+
+-- The program has what was observed, and is the same in all else. Its queues stay in order. Whoever waits as before is in
+-- the queue, if it was, and all who wait for a mutex that is given join its queue, unless the mutex has no owner or the
+-- model refuses that.
 pub record Observes (r : ReplayState) (o : Observation) (s : ReplayState) : Type 0 where
   pub same : IsSame (observed (program_of r) o) (program_of s)
   pub order : StaysInOrder r s
+  pub queued : StayQueued r s
+  pub given : (m : ℕ) → IsGiven o m → AllJoin r s m
 
 -- nothing was observed: each task waits for what it did, with the same number
 abbrev pub StaysTheSame : ReplayState → ReplayState → Type 0
@@ -276,9 +350,14 @@ IsNotReleased p t m (Some u) = λ step reply.
     IsNotPassedOn t m u step reply
     ⊎ (IsOtherwise (lock u m) Reply.Granted step reply ⊎ IsNoReturn (given p m (Some u)) m step reply)
 
--- a task that waits for a mutex in the program locks it, and the reply isn't a wait
-abbrev pub IsNotBack : Program → Step → Reply → Type 0
-IsNotBack p step reply = (m : ℕ) × IsNoReturn p m step reply
+-- a task that waits now for the mutex for which t waited before locks it, and the reply isn't a wait
+abbrev pub IsNotBack : Program → Program → ℕ → Step → Reply → Type 0
+IsNotBack before now t step reply = (m : ℕ) × (awaits before t ≡ Some m) × IsNoReturn now m step reply
+
+-- so does one that waits for the mutex for which the owner of m waited before
+abbrev pub IsOwnerNotBack : Program → Program → ℕ → Step → Reply → Type 0
+IsOwnerNotBack before now m step reply =
+    (t : ℕ) × (unwrap_or (nth before.owner m) None ≡ Some t) × IsNotBack before now t step reply
 
 -- t and m are known, m is free, and t waits for nothing
 abbrev pub MayTake : Program → ℕ → ℕ → Type 0
@@ -291,10 +370,10 @@ Contradicts p (Granted t m) = IsNotGranted p t m
 Contradicts p (Waits t m) = λ step reply. ¬ MayTake p t m × IsNoWait t m step reply
 Contradicts p (GaveUp t) = λ step reply. ⊥
 Contradicts p (Released t m next) = λ step reply.
-    IsNotReleased p t m (waiting_for p m next) step reply ⊎ IsNotBack (observed p (Released t m next)) step reply
+    IsNotReleased p t m (waiting_for p m next) step reply ⊎ IsNotBack p (observed p (Released t m next)) t step reply
 Contradicts p (Base t level) = IsNotSet (Op.SetBase t level)
 Contradicts p (Ceiling m level) = λ step reply.
-    IsNotSet (Op.SetCeiling m level) step reply ⊎ IsNotBack (observed p (Ceiling m level)) step reply
+    IsNotSet (Op.SetCeiling m level) step reply ⊎ IsOwnerNotBack p (observed p (Ceiling m level)) m step reply
 
 -- why an observation isn't replayed: memory ran out, or the model's reply to the last step contradicts it
 abbrev pub IsReplayFault : ReplayState → Observation → ReplayState → ReplayFault → Type 0

@@ -24,7 +24,6 @@
 
 mod fault;
 mod laws;
-mod lists;
 mod observation;
 mod observing;
 mod order;

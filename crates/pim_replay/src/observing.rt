@@ -1,29 +1,32 @@
 //! What each observation makes of a replay.
 
 ghost use Rattle.std.specs.Prelude.{◌≡◌, ◌≢◌, ◌⊎◌, None, Some, IsSome, IfSome, IfOk, IfErr, IsTrue, IsFalse};
-ghost use Rattle.std.specs.Prelude.{OnErr, length, if◌then◌else◌};
-ghost use Rattle.pim_base.specs.State.{IsState, IsTask, wait_of};
+ghost use Rattle.std.specs.Prelude.{OnErr, ℕ, length, if◌then◌else◌};
+ghost use Rattle.pim_base.specs.Runs.{IsRun};
+ghost use Rattle.pim_base.specs.State.{IsState, IsTask, owner_of, wait_of};
 ghost use Rattle.pim_base.specs.Steady.{IsSteady};
 ghost use Rattle.pim_base.specs.Steps.{reply_of};
 ghost use Rattle.pim_base.specs.declared.steps.Op.{Op};
 ghost use Rattle.pim_base.specs.declared.steps.Reply.TheVariants as reply;
-ghost use Rattle.pim_replay.specs.Replays.{Continues, Observes, StaysInOrder, StaysTheSame, IsBehindAll};
+ghost use Rattle.pim_replay.specs.Replays.{AllJoin, Continues, KeepsEarlier, KeepsQueue, Observes, StaysInOrder};
+ghost use Rattle.pim_replay.specs.Replays.{StaysTheSame, IsBack, IsBehindAll};
 ghost use Rattle.pim_replay.specs.Replays.{IsInOrder, IsQueued, IsQueuedIfItMay, IsSame, IsReplayFault, JoinsQueue, Stops};
-ghost use Rattle.pim_replay.specs.Replays.{IsOtherwise, IsNoWait, IsNoReturn, IsNotBack, IsNotPassedOn};
-ghost use Rattle.pim_replay.specs.Replays.{IsNotReleased, IsNotSet, awaited, given, lock, unlock, cancel};
+ghost use Rattle.pim_replay.specs.Replays.{IsOtherwise, IsNoWait, IsNoReturn, IsNotPassedOn};
+ghost use Rattle.pim_replay.specs.Replays.{IsNotReleased, IsNotSet, awaited, given, lock, unlock, cancel, mutex_of};
 ghost use Rattle.pim_replay.specs.Replays.{program_of, program_wait, with_step, waiting_for};
 ghost use Rattle.pim_replay.specs.declared.observation.Observation.TheVariants as observation;
 
 use crate::fault::ReplayFault;
 use crate::observation::Observation;
 use crate::replay::Replay;
-use pim_base::{MAX_TASKS, MutexNo, Op, Prio, Refusal, Reply, Step, TaskNo};
+use pim_base::{MutexNo, Op, Prio, Refusal, Reply, Step, TaskNo};
 use std::alloc::AllocError;
 
 impl Replay {
     /// Makes the steps after which the manager has what was observed. What each task owns and waits for, the bases and
     /// the protocols change as observed, and in nothing else. Those of one priority stay in their queue in the order in
     /// which they began to wait. Whoever begins to wait is queued, unless the mutex has no owner or the model refuses that.
+    /// So is whoever waits for a mutex that gets an owner, and whoever was queued before and still waits.
     ///
     /// A task that the mutex passes over leaves its queue and joins it again when the mutex has its next owner. One that
     /// waits for a mutex whose owner isn't observed yet, or whose wait the model refuses, as where it would close a cycle of
@@ -160,27 +163,27 @@ impl Replay {
     fn step_out(&mut self, task: TaskNo) -> Result<Option<MutexNo>, AllocError>
         ensures same { IfOk result (λ _. StaysTheSame self.old self.new) }
         ensures order { IfOk result (λ _. StaysInOrder self.old self.new) }
+        ensures others { IfOk result (λ left. (m : ℕ) → left ≢ Some m → KeepsQueue self.old self.new m) }
+        ensures left { IfOk result (λ left. (m : ℕ) → left ≡ Some m → awaited self.old task ≡ Some m) }
         ensures continues { Continues self.old self.new }
     {
-        let Some(mutex) = self.queued(task) else {
-            return Ok(None);
-        };
         let Some(own) = self.program_wait(task) else {
             return Ok(None);
         };
-        for _round in 0..MAX_TASKS {
-            let Some(first) = self.first_queued(mutex, own.ticket) else {
-                break;
-            };
-            self.withdraw(first)?;
+        if self.queued(task) != Some(own.mutex) {
+            return Ok(None);
         }
-        Ok(Some(mutex))
+        self.withdraw_from(own.mutex, own.ticket)?;
+        Ok(Some(own.mutex))
     }
 
     /// Takes the owner of the mutex, if there is one, out of the queue in which it waits, as above.
     fn step_out_owner(&mut self, mutex: MutexNo) -> Result<Option<MutexNo>, AllocError>
         ensures same { IfOk result (λ _. StaysTheSame self.old self.new) }
         ensures order { IfOk result (λ _. StaysInOrder self.old self.new) }
+        ensures others { IfOk result (λ left. (m : ℕ) → left ≢ Some m → KeepsQueue self.old self.new m) }
+        ensures left { IfOk result (λ left. (m : ℕ) → left ≡ Some m →
+            (t : ℕ) × (owner_of self.old.state mutex ≡ Some t) × (awaited self.old t ≡ Some m)) }
         ensures continues { Continues self.old self.new }
     {
         match self.owner(mutex) {
@@ -189,11 +192,14 @@ impl Replay {
         }
     }
 
-    /// Lets those join the queue of this mutex, if there is one, that left it so that a task could make a step.
+    /// Lets all who wait for this mutex outside, if there is one, join its queue: they left it so that a task could make a step.
     fn step_in(&mut self, mutex: Option<MutexNo>) -> Result<(), ReplayFault>
         ensures same { IfOk result (λ _. StaysTheSame self.old self.new) }
         ensures order { IfOk result (λ _. StaysInOrder self.old self.new) }
-        ensures fault { IfErr result (Stops self.old (IsNotBack (program_of self.old)) self.new) }
+        ensures join { IfOk result (λ _. IfSome mutex (AllJoin self.old self.new)) }
+        ensures others { IfOk result (λ _. (m : ℕ) → mutex ≢ Some m → KeepsQueue self.old self.new m) }
+        ensures fault { IfErr result (Stops self.old
+            (λ step reply. (m : ℕ) × (mutex ≡ Some m) × IsNoReturn (program_of self.old) m step reply) self.new) }
         ensures continues { Continues self.old self.new }
     {
         match mutex {
@@ -207,6 +213,8 @@ impl Replay {
     fn give(&mut self, task: TaskNo, mutex: MutexNo, next: TaskNo) -> Result<(), ReplayFault>
         ensures given { IfOk result (λ _. IsSame (given (program_of self.old) mutex (Some next)) (program_of self.new)) }
         ensures order { IfOk result (λ _. StaysInOrder self.old self.new) }
+        ensures join { IfOk result (λ _. AllJoin self.old self.new mutex) }
+        ensures others { IfOk result (λ _. (m : ℕ) → mutex ≢ m → KeepsQueue self.old self.new m) }
         ensures fault { IfErr result (Stops self.old (IsNotReleased (program_of self.old) task mutex (Some next)) self.new) }
         ensures continues { Continues self.old self.new }
     {
@@ -233,15 +241,13 @@ impl Replay {
     fn pass_over(&mut self, mutex: MutexNo, next: Option<TaskNo>) -> Result<(), AllocError>
         ensures same { IfOk result (λ _. StaysTheSame self.old self.new) }
         ensures order { IfOk result (λ _. StaysInOrder self.old self.new) }
+        ensures others { IfOk result (λ _. (m : ℕ) → mutex ≢ m → KeepsQueue self.old self.new m) }
         ensures continues { Continues self.old self.new }
     {
         if self.is_first(mutex, &next) {
             return Ok(());
         }
-        for _round in 0..MAX_TASKS {
-            let Some(task) = self.queued_but(mutex, &next) else {
-                break;
-            };
+        while let Some(task) = self.queued_but(mutex, &next) {
             self.withdraw(task)?;
         }
         Ok(())
@@ -260,30 +266,34 @@ impl Replay {
 
     /// Returns the first task but this one in the queue of the mutex.
     fn queued_but(&self, mutex: MutexNo, but: &Option<TaskNo>) -> Option<TaskNo>
-        ensures { IfSome result (λ task. IsSome (wait_of self.now.state task)) }
+        ensures { IfSome result (λ task. mutex_of (wait_of self.now.state task) ≡ Some mutex) }
     {
         for waiter in self.manager().waiters(mutex)? {
-            if Some(waiter.task) != *but && self.queued(waiter.task).is_some() {
+            if Some(waiter.task) != *but && self.queued(waiter.task) == Some(mutex) {
                 return Some(waiter.task);
             }
         }
         None
     }
 
-    /// Lets the tasks that wait outside join the queue of the mutex, in the order in which they began to wait.
-    pub(crate) fn rejoin(&mut self, mutex: MutexNo) -> Result<(), ReplayFault>
+    /// Lets the tasks that wait outside join the queue of the mutex, in the order in which they began to wait, each unless
+    /// the model refuses that.
+    fn rejoin(&mut self, mutex: MutexNo) -> Result<(), ReplayFault>
         ensures same { IfOk result (λ _. StaysTheSame self.old self.new) }
         ensures order { IfOk result (λ _. StaysInOrder self.old self.new) }
+        ensures join { IfOk result (λ _. AllJoin self.old self.new mutex) }
+        ensures others { IfOk result (λ _. (m : ℕ) → mutex ≢ m → KeepsQueue self.old self.new m) }
         ensures fault { IfErr result (Stops self.old (IsNoReturn (program_of self.old) mutex) self.new) }
         ensures continues { Continues self.old self.new }
     {
-        let mut from = 1;
-        for _round in 0..MAX_TASKS {
-            let Some((task, wait)) = self.first_outside(mutex, from) else {
-                break;
-            };
-            from = wait.ticket.saturating_add(1);
+        let mut from = 0;
+        while let Some((task, wait)) = self.first_outside(mutex, from) {
             self.join(task, mutex, wait.ticket)?;
+            // No wait has the last number: the next wait's number is higher.
+            let Some(next) = wait.ticket.checked_add(1) else {
+                return Err(ReplayFault::Memory);
+            };
+            from = next;
         }
         Ok(())
     }
@@ -294,14 +304,27 @@ impl Replay {
         requires { program_wait self.old task ≡ Some (record { mutex = mutex; ticket = number }) }
         ensures same { IfOk result (λ _. StaysTheSame self.old self.new) }
         ensures order { IfOk result (λ _. StaysInOrder self.old self.new) }
+        ensures back { IfOk result (λ _. IsBack self.old self.new task mutex) }
+        ensures earlier { IfOk result (λ _. KeepsEarlier self.old self.new mutex number) }
+        ensures others { IfOk result (λ _. (m : ℕ) → mutex ≢ m → KeepsQueue self.old self.new m) }
         ensures fault { IfErr result (Stops self.old (IsNoWait task mutex) self.new) }
         ensures continues { Continues self.old self.new }
     {
-        for _round in 0..MAX_TASKS {
-            let Some(later) = self.first_queued(mutex, number) else {
-                self.queue(task, mutex)?;
-                return Ok(());
-            };
+        self.withdraw_from(mutex, number)?;
+        self.queue(task, mutex)?;
+        Ok(())
+    }
+
+    /// Takes those out of the queue of the mutex whose waits have this number or a higher one. They wait outside then.
+    fn withdraw_from(&mut self, mutex: MutexNo, number: u64) -> Result<(), AllocError>
+        ensures same { IfOk result (λ _. StaysTheSame self.old self.new) }
+        ensures order { IfOk result (λ _. StaysInOrder self.old self.new) }
+        ensures behind { IfOk result (λ _. IsBehindAll self.new mutex number) }
+        ensures earlier { IfOk result (λ _. KeepsEarlier self.old self.new mutex number) }
+        ensures others { IfOk result (λ _. (m : ℕ) → mutex ≢ m → KeepsQueue self.old self.new m) }
+        ensures continues { Continues self.old self.new }
+    {
+        while let Some(later) = self.first_queued(mutex, number) {
             self.withdraw(later)?;
         }
         Ok(())
@@ -370,6 +393,7 @@ impl Replay {
         ensures err { OnErr result (self.new ≡ self.old) }
         ensures lists { IsState self.old.state }
         ensures steady { IsSteady self.old.state }
+        ensures run { IsRun self.old.start self.old.entries self.old.state }
     {
         self.make(lock(task, mutex))
     }
@@ -402,6 +426,7 @@ impl Replay {
         ensures reply { IfOk result (λ free.
             reply_of self.old.state (unlock task mutex) ≡ (if free then reply.Freed else reply.Handed next)) }
         ensures made { IfOk result (λ _. self.new ≡ with_step self.old (unlock task mutex)) }
+        ensures steady { IsSteady self.old.state }
         ensures fault { IfErr result (Stops self.old (IsNotPassedOn task mutex next) self.new) }
         ensures continues { Continues self.old self.new }
     {

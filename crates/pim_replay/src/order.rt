@@ -1,6 +1,6 @@
 //! The order in which tasks wait.
 
-ghost use Rattle.std.specs.Prelude.{◌≡◌, ◌≢◌, ◌↔◌, IsTrue, Some, IsSome, IfSome, IfNone, All, Contains};
+ghost use Rattle.std.specs.Prelude.{◌≡◌, ◌≢◌, ◌↔◌, ◌≤◌, IsTrue, Some, IfSome, IfNone, All, Contains};
 ghost use Rattle.pim_base.specs.State.{wait_of};
 ghost use Rattle.pim_base.specs.declared.steps.Waiter.{Waiter};
 ghost use Rattle.pim_replay.specs.Replays.{IsBehindAll, KeepsOrder, KeepsPlace, StayInOrder};
@@ -74,7 +74,8 @@ impl Replay {
     /// Returns the task in the queue of the mutex whose wait began first, of the waits with this number or a higher one.
     /// Looks at each waiter there.
     pub(crate) fn first_queued(&self, mutex: MutexNo, from: u64) -> Option<TaskNo>
-        ensures queued { IfSome result (λ task. IsSome (wait_of self.now.state task)) }
+        ensures queued { IfSome result (λ task. mutex_of (wait_of self.now.state task) ≡ Some mutex) }
+        ensures later { IfSome result (λ task. IfSome (program_wait self.now task) (λ wait. from ≤ wait.ticket)) }
         ensures none { IfNone result (IsBehindAll self.now mutex from) }
     {
         // By its contract the proof knows that the state is steady.
@@ -87,7 +88,8 @@ impl Replay {
                 first = Some((task, number));
             }
         }
-        first.map(|(task, _)| task)
+        let (task, _) = first?;
+        Some(task)
     }
 
     /// Returns the number of the task's wait in the program, 2^64 - 1 if it waits for nothing there.

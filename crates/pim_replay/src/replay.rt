@@ -1,15 +1,20 @@
 //! The steps by which a manager does what a recorded program did.
 
-ghost use Rattle.std.specs.Prelude.{◌≡◌, ◌↔◌, ℕ, length, Some, None, OnErr, IfOk, IfErr, IfSome, IsTrue};
+ghost use Rattle.std.specs.Prelude.{◌≡◌, ◌≢◌, ◌↔◌, ◌<◌, ◌≤◌, ℕ, length, Some, None, OnErr, IfOk, IfErr};
+ghost use Rattle.std.specs.Prelude.{IfSome, IfNone, IsSomeAnd, IsTrue, IsFalse};
 ghost use Rattle.pim_base.specs.Reports.{verdict_of};
 ghost use Rattle.pim_base.specs.Runs.{IsRun};
 ghost use Rattle.pim_base.specs.State.{IsState, IsTask, IsMutex, start, base_of, protocol_of, owner_of, wait_of};
 ghost use Rattle.pim_base.specs.Steady.{IsSteady};
 ghost use Rattle.pim_base.specs.Lists.{put};
 ghost use Rattle.pim_base.specs.Steps.{reply_of};
+ghost use Rattle.pim_base.specs.declared.limits.TheConstants.{MAX_TASKS};
 ghost use Rattle.pim_base.specs.declared.lines.Verdict.{Verdict};
+ghost use Rattle.pim_base.specs.declared.steps.Op.{Op};
+ghost use Rattle.pim_base.specs.declared.steps.Wait.{Wait};
 ghost use Rattle.pim_replay.specs.Replays.{Continues, trace_of_replay, awaited, mutex_of, program_wait, at_start};
-ghost use Rattle.pim_replay.specs.Replays.{begun, with_step, without_wait, IsInOrder, IsOtherwise, StaysTheSame, Stops};
+ghost use Rattle.pim_replay.specs.Replays.{begun, queued_after, with_step, without_wait, IsInOrder, IsOtherwise, IsOutside};
+ghost use Rattle.pim_replay.specs.Replays.{StaysTheSame, Stops};
 
 use crate::fault::ReplayFault;
 use pim_base::{Entry, MutexNo, Prio, Protocol, Reply, Step, TaskNo, Wait, nth};
@@ -39,7 +44,7 @@ pub struct Replay {
     next: u64,
     /// How many tasks wait in the program.
     waiting: usize,
-    /// How many of them are in a queue.
+    /// How many tasks are in a queue.
     queued: usize,
 }
 
@@ -47,7 +52,7 @@ impl Model for Replay {
     ghost use Rattle.std.specs.Prelude.{◌≡◌, length};
     ghost use Rattle.pim_base.specs.Runs.{IsRun};
     ghost use Rattle.pim_base.specs.State.{start};
-    ghost use Rattle.pim_replay.specs.Replays.{ReplayState};
+    ghost use Rattle.pim_replay.specs.Replays.{ReplayState, waits_among};
 
     ghost Value = { ReplayState };
 
@@ -60,7 +65,8 @@ impl Model for Replay {
     } };
 
     ghost invariant = { λ r. IsRun (start r.bases.items r.protocols.items 1) r.entries.items r.manager
-        × (length r.waits.items ≡ length r.manager.base) };
+        × (length r.waits.items ≡ length r.manager.base)
+        × (r.waiting ≡ waits_among r.waits.items) × (r.queued ≡ waits_among r.manager.wait) };
 }
 
 impl Replay {
@@ -157,17 +163,21 @@ impl Replay {
     /// Returns the task in no queue whose wait for the mutex began first, of the waits with this number or a higher one.
     /// Looks at each task if any waits outside of the queues.
     pub(crate) fn first_outside(&self, mutex: MutexNo, from: u64) -> Option<(TaskNo, Wait)>
-        ensures { IfSome result (λ first.
-            (program_wait self.now first.0 ≡ Some first.1) × (first.1.mutex ≡ mutex)) }
+        ensures outside { IfSome result (λ first. IsOutside self.now first.0 mutex from first.1) }
+        ensures first { IfSome result (λ first. (t : ℕ) (wait : Wait) → IsOutside self.now t mutex from wait →
+            first.1.ticket ≤ wait.ticket) }
+        ensures none { IfNone result (IsInOrder self.now → (t : ℕ) (wait : Wait) → IsOutside self.now t mutex from wait → ⊥) }
     {
         let mut first: Option<(TaskNo, Wait)> = None;
+        let tasks = self.tasks();
         if self.waiting <= self.queued {
             return first;
         }
-        for number in 1..=self.manager.tasks() {
-            if let Some(wait) = self.outside_wait(TaskNo(number)) {
+        for place in 0..tasks {
+            let task = TaskNo(place + 1);
+            if let Some(wait) = self.outside_wait(task) {
                 if wait.mutex == mutex && from <= wait.ticket && is_before(&wait, &first) {
-                    first = Some((TaskNo(number), wait));
+                    first = Some((task, wait));
                 }
             }
         }
@@ -176,7 +186,9 @@ impl Replay {
 
     /// Returns what the task waits for in the program if it is in no queue.
     fn outside_wait(&self, task: TaskNo) -> Option<Wait>
-        ensures { IfSome result (λ wait. program_wait self.now task ≡ Some wait) }
+        ensures outside { IfSome result (λ wait.
+            (program_wait self.now task ≡ Some wait) × (wait_of self.now.state task ≡ None)) }
+        ensures none { IfNone result (wait_of self.now.state task ≡ None → program_wait self.now task ≡ None) }
     {
         match self.queued(task) {
             Some(_) => None,
@@ -278,17 +290,19 @@ impl Replay {
             && self.program_wait(task) == other.program_wait(task)
     }
 
-    /// Makes the step, and keeps it with its reply.
+    /// Makes the step, which releases one mutex at most, and keeps it with its reply.
     ///
     /// # Errors
     ///
     /// Returns `AllocError` if out of memory. Nothing has changed then.
     pub(crate) fn make(&mut self, step: Step) -> Result<Reply, AllocError>
+        requires one { step.op ≢ Op.ReleaseAll }
         ensures reply { IfOk result (λ reply. reply ≡ reply_of self.old.state step) }
         ensures made { IfOk result (λ _. self.new ≡ with_step self.old step) }
         ensures err { OnErr result (self.new ≡ self.old) }
         ensures lists { IsState self.old.state }
         ensures steady { IsSteady self.old.state }
+        ensures run { IsRun self.old.start self.old.entries self.old.state }
     {
         // By its contract the proof knows that the state is steady.
         let _steady = self.manager.tasks();
@@ -297,20 +311,21 @@ impl Replay {
             return Err(AllocError);
         }
         let reply = self.manager.step(*step).reply;
+        self.queued = queued_after(self.queued, &reply);
         self.entries.push_reserved(entry(*step, reply));
         let Some(last) = self.entries.last() else {
             unreachable!()
         };
-        self.queued = queued_after(self.queued, &last.reply);
         Ok(last.reply)
     }
 
-    /// Makes a step to which the model must give this reply.
+    /// Makes a step, which releases one mutex at most, and to which the model must give this reply.
     ///
     /// # Errors
     ///
     /// Returns `Contradiction` if that is another one: the step is made all the same. Returns `Memory` if out of memory.
     pub(crate) fn require(&mut self, step: Step, reply: Reply) -> Result<(), ReplayFault>
+        requires one { step.op ≢ Op.ReleaseAll }
         ensures made { IfOk result (λ _. (reply_of self.old.state step ≡ reply) × (self.new ≡ with_step self.old step)) }
         ensures fault { IfErr result (Stops self.old (IsOtherwise step reply) self.new) }
         ensures continues { Continues self.old self.new }
@@ -381,16 +396,23 @@ impl Replay {
 }
 
 /// Returns how many tasks are in queues after a reply if there were so many before.
-fn queued_after(queued: usize, reply: &Reply) -> usize {
+fn queued_after(queued: usize, reply: &Reply) -> usize
+    requires { queued ≤ MAX_TASKS }
+    ensures { result ≡ queued_after queued reply.now }
+{
     match reply {
-        Reply::Queued => queued.saturating_add(1),
+        Reply::Queued => queued + 1,
         Reply::Withdrawn | Reply::Handed(_) => queued.saturating_sub(1),
-        _ => queued,
+        Reply::Granted | Reply::Kept | Reply::Freed => queued,
+        Reply::Released(_) | Reply::Set | Reply::Refused(_) => queued,
     }
 }
 
 /// Returns whether the wait is before the first one so far, if there is one.
-fn is_before(wait: &Wait, first: &Option<(TaskNo, Wait)>) -> bool {
+fn is_before(wait: &Wait, first: &Option<(TaskNo, Wait)>) -> bool
+    ensures before { IsTrue result → IfSome first.now (λ first. wait.now.ticket < first.1.ticket) }
+    ensures later { IsFalse result → IsSomeAnd first.now (λ first. first.1.ticket ≤ wait.now.ticket) }
+{
     match first {
         Some((_, first)) => wait.ticket < first.ticket,
         None => true,

@@ -4,7 +4,6 @@ ghost use Rattle.std.specs.Prelude.{IfOk};
 ghost use Rattle.pim_replay.specs.Replays.{KeepsOrder, StaysInOrder, StaysTheSame};
 
 use crate::fault::ReplayFault;
-use crate::lists::push;
 use crate::observation::Observation;
 use crate::observing::lock;
 use crate::replay::Replay;
@@ -67,18 +66,11 @@ fn begun(alloc: Global, replay: &Replay) -> Result<Replay, ReplayFault> {
 /// Returns a replay with the tasks and the mutexes of another one, their ceilings, and the waits of its program. All bases
 /// are 1.
 fn at_start(alloc: Global, replay: &Replay) -> Result<Replay, ReplayFault> {
-    let mut bases = Vec::new(alloc);
-    for _task in 0..replay.manager().tasks() {
-        if let Some(lowest) = Prio::new(1) {
-            push(&mut bases, lowest)?;
-        }
-    }
-    let mut protocols = Vec::new(alloc);
-    for number in 1..=replay.manager().mutexes() {
-        let protocol = replay.manager().protocol(MutexNo(number));
-        push(&mut protocols, protocol.unwrap_or(Protocol::None))?;
-    }
-    match Replay::new(alloc, bases, protocols) {
+    let bases = match Prio::new(1) {
+        Some(lowest) => vec![in alloc; lowest; replay.manager().tasks() as usize]?,
+        None => Vec::new(alloc),
+    };
+    match Replay::new(alloc, bases, protocols_of(alloc, replay)?) {
         Ok(mut next) => {
             next.take_waits_of(replay);
             Ok(next)
@@ -86,6 +78,16 @@ fn at_start(alloc: Global, replay: &Replay) -> Result<Replay, ReplayFault> {
         Err(MakeFault::Memory) => Err(ReplayFault::Memory),
         Err(_) => Err(ReplayFault::Contradiction),
     }
+}
+
+/// Returns the protocols of the mutexes of a replay, with their ceilings.
+fn protocols_of(alloc: Global, replay: &Replay) -> Result<Vec<Protocol>, AllocError> {
+    let mut protocols = Vec::new(alloc);
+    for number in 1..=replay.manager().mutexes() {
+        let protocol = replay.manager().protocol(MutexNo(number));
+        protocols.push(protocol.unwrap_or(Protocol::None))?;
+    }
+    Ok(protocols)
 }
 
 /// Returns the waits in the queues, in order.
@@ -99,7 +101,7 @@ fn queued(alloc: Global, replay: &Replay) -> Result<Vec<QueuedWait>, AllocError>
                     task: waiter.task.get(),
                     mutex: number,
                 };
-                push(&mut waits, wait)?;
+                waits.push(wait)?;
             }
         }
     }

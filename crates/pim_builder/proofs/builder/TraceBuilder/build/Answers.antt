@@ -12,4 +12,4 @@ returns-clause-shown c =
     ] in
     shown_more c.args.context.now c.args.fact.now c.args.now.now.time c.args.self.now c.make.new.self c.in_ok-is_used.is_used
     c.in_ok-is_used.ensures.on shows c.in_ok-is_used.ensures.unset c.in_ok-is_used.ensures.others
-    c.in_ok-is_used.ensures.queued
+    c.in_ok-is_used.ensures.queued c.in_ok-is_used.ensures.given

@@ -26,7 +26,7 @@ returns-clause-only c =
     (view_of (record c.admit_thread.new.self { pieces = c.begin_with_base.new.self })) (program_at c.leave.new.self)
     (sym c.in_default.ensures) (sym c.in-Some-of.ensures) (sym c.in-Some-task_of.ensures)
     (ap (λ (v : View). v.threads) taken) (ap (λ (v : View). v.mutexes) taken)
-    c.in_ok-leave.ensures.only c.in_ok-leave.ensures.left
+    c.in_ok-leave.ensures.only c.in_ok-leave.ensures.left c.in_ok-leave.ensures.frees
     (subst
     (λ p. ChangesThose (record { base = Some c.in-Some-task_of.task; wait = None; owner = None; ceiling = None }) p
     (program_at c.begin_with_base.new.self))

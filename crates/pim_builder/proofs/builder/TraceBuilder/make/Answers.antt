@@ -1,9 +1,11 @@
-use Rattle.std.proofs.Common.{◌∙◌, None, Some, sym}
+use Rattle.std.proofs.Common.{◌∙◌, None, Some, refl, sym}
+use Rattle.pim_facts.specs.declared.fact.What.TheVariants as what
 use Rattle.pim_replay.specs.declared.observation.Observation.TheVariants.{Base, Ceiling}
-use Rattle.pim_builder.specs.Views.{program_at, view_of}
+use Rattle.pim_builder.specs.Views.{mutex_now, program_at, view_of}
 use Rattle.pim_builder.proofs.Entering.{ceiling_only, keeps_from, level_only, none_changed}
 use Rattle.pim_builder.proofs.Extending.{cut_and_on, cut_and_extended, extends_steps}
 use Rattle.pim_builder.proofs.Framing.{by_observation}
+use Rattle.pim_builder.proofs.KeepingQueues.{all_join_by_since, none_given}
 use Rattle.pim_builder.proofs.builder.TraceBuilder.make.Goals as goal
 
 pub returns-in_ok-observe-in-Level-clause-on : goal.returns-in_ok-observe-in-Level-clause-on
@@ -31,6 +33,9 @@ returns-in_ok-act-in-Granted c = record {
   others = keeps_from c.args.context.now c.args.fact.now (view_of c.args.self.now) (view_of c.act.new.self)
       (program_at c.cut.new.self) c.in_ok-cut.ensures.same c.in_ok-act-in-Granted.ensures.others;
   queued = c.in_ok-act-in-Granted.ensures.queued;
+  given = all_join_by_since c.args.now.now.time c.args.self.now.pieces c.cut.new.self c.act.new.self.pieces
+      (mutex_now c.args.context.now c.act.new.self) c.args.fact.now.what c.args.fact.now.thread c.in_ok-cut.ensures.on
+      c.in_ok-act-in-Granted.ensures.given;
   on = cut_and_extended c.args.context.now c.args.now.now.time c.args.self.now c.cut.new.self c.act.new.self
       c.in_ok-cut.ensures.on c.in_ok-act-in-Granted.ensures.on;
   fault = tt;
@@ -75,3 +80,23 @@ returns-in_default-clause-queued c = λ m waits. absurd (cc (sym c.in-Level.is �
 
 pub returns-in_default-mutex_of-clause-queued : goal.returns-in_default-mutex_of-clause-queued
 returns-in_default-mutex_of-clause-queued c = λ m waits. absurd (cc (sym c.in-Ceiling.is ∙ waits))
+
+pub returns-in_ok-observe-in-Level-clause-given : goal.returns-in_ok-observe-in-Level-clause-given
+returns-in_ok-observe-in-Level-clause-given c =
+    none_given c.args.self.now.pieces c.observe.new.self (mutex_now c.args.context.now c.args.self.now)
+    c.args.fact.now.what (what.Level c.in-Level.level) c.args.fact.now.thread c.in-Level.is refl
+
+pub returns-in_ok-observe-in-Ceiling-clause-given : goal.returns-in_ok-observe-in-Ceiling-clause-given
+returns-in_ok-observe-in-Ceiling-clause-given c =
+    none_given c.args.self.now.pieces c.observe-in-Ceiling.new.self (mutex_now c.args.context.now c.args.self.now)
+    c.args.fact.now.what (what.Ceiling c.in-Ceiling.mutex c.in-Ceiling.level) c.args.fact.now.thread c.in-Ceiling.is refl
+
+pub returns-in_default-clause-given : goal.returns-in_default-clause-given
+returns-in_default-clause-given c =
+    none_given c.args.self.now.pieces c.cut.new.self (mutex_now c.args.context.now c.args.self.now)
+    c.args.fact.now.what (what.Level c.in-Level.level) c.args.fact.now.thread c.in-Level.is refl
+
+pub returns-in_default-mutex_of-clause-given : goal.returns-in_default-mutex_of-clause-given
+returns-in_default-mutex_of-clause-given c =
+    none_given c.args.self.now.pieces c.cut.new.self (mutex_now c.args.context.now c.args.self.now)
+    c.args.fact.now.what (what.Ceiling c.in-Ceiling.mutex c.in-Ceiling.level) c.args.fact.now.thread c.in-Ceiling.is refl

@@ -1,18 +1,33 @@
-use Rattle.std.proofs.Common.{◌∙◌, ◌-◌, ◌++◌, ap, length, refl, replicate, rules}
+use Rattle.std.proofs.Common.{◌∙◌, ◌-◌, ◌++◌, ap, length, refl, replicate, subst}
 use Rattle.pim_replay.specs.declared.piece.Piece.{Piece}
+use Rattle.pim_builder.specs.Pieces.{AllJoinAt}
 use Rattle.pim_builder.proofs.GoingOn.{steps_made}
+use Rattle.pim_builder.proofs.KeepingQueues.{observed_joins, observed_queues}
 use Rattle.pim_builder.proofs.pieces.Pieces.observe.Goals as goal
 
 pub returns-clause-on : goal.returns-clause-on
 returns-clause-on c =
+    let old : Piece = c.self.inside.piece in
     let new : Piece = record {
       replay = c.observe.new.self;
       times = c.push_times.new.times;
       restoring = c.self.inside.piece.restoring;
     } in
-    steps_made c.args.now.now.time c.self.inside.ended.items c.self.inside.piece new c.args.self.now
+    steps_made c.args.now.now.time c.self.inside.ended.items old new c.args.self.now
     (record { before = c.self.inside.ended.items; piece = new }) c.self.view_is refl refl c.observe.ensures.continues
     (c.in_ok-push_times.ensures
     ∙ ap (λ es. c.self.inside.piece.times ++ replicate (length es - length c.self.inside.piece.times) c.args.now.now.time)
     c.entries-steps.ensures.entries)
-    (search rules)
+    c.in-Ok.ensures.observed.order
+    (observed_queues c.self.inside.ended.items old new c.args.observation.now c.in-Ok.ensures.observed)
+
+pub returns-clause-given : goal.returns-clause-given
+returns-clause-given c = λ n given.
+    let new : Piece = record {
+      replay = c.observe.new.self;
+      times = c.push_times.new.times;
+      restoring = c.self.inside.piece.restoring;
+    } in
+    subst (λ p. AllJoinAt p (record { before = c.self.inside.ended.items; piece = new }) n) c.self.view_is
+    (observed_joins c.self.inside.ended.items c.self.inside.piece new c.args.observation.now n
+    c.in-Ok.ensures.observed given)

@@ -1,7 +1,9 @@
+use Rattle.std.proofs.Common.{Err, IfOk, Ok, Result}
 use Rattle.std.proofs.lemmas.Result.{IfOk-weaker}
 use Rattle.pim_builder.specs.Views.{program_at}
 use Rattle.pim_builder.proofs.Framing.{around_base, by_observation}
 use Rattle.pim_builder.proofs.GoingOn.{goes_on_trans}
+use Rattle.pim_builder.proofs.KeepingQueues.{all_join_since, all_join_upto}
 use Rattle.pim_builder.proofs.pieces.Pieces.observe_grant.Goals as goal
 
 pub returns-in_default-clause-only : goal.returns-in_default-clause-only
@@ -21,3 +23,17 @@ returns-clause-on c = IfOk-weaker c.observe-4.result _ _ (λ x on.
     goes_on_trans c.args.now.now.time c.args.self.now c.observe-2.new.self c.observe-4.new.self c.in_ok-observe.ensures.on
     (goes_on_trans c.args.now.now.time c.observe-2.new.self c.observe-3.new.self c.observe-4.new.self
     c.in_ok-observe-2.ensures.on on)) c.observe-4.ensures.on
+
+both_ok : {T E : Type 0} (r : Result T E) (P Q : T → Type 0) → IfOk r P → IfOk r Q → IfOk r (λ x. P x × Q x)
+both_ok (Ok x) P Q p q = (p, q)
+both_ok (Err y) P Q p q = tt
+
+pub returns-clause-given : goal.returns-clause-given
+returns-clause-given c =
+    let before = c.in_ok-observe.ensures.on in
+    let on = c.in_ok-observe-2.ensures.on in
+    IfOk-weaker c.observe-4.result _ _ (λ x both n given.
+    all_join_since c.args.self.now c.observe-2.new.self c.observe-4.new.self n before.reached before.order
+    (all_join_upto c.observe-2.new.self c.observe-3.new.self c.observe-4.new.self n on.reached both.1.reached both.1.queues
+    on.order both.0.waits (c.in_ok-observe-2.ensures.given n given)))
+    (both_ok c.observe-4.result _ _ c.observe-4.ensures.observed c.observe-4.ensures.on)

@@ -1,7 +1,7 @@
 use Rattle.std.proofs.Common.{◌≡◌, ◌≢◌, ◌∙◌, ◌+◌, Some, arith, refl, rules}
 use Rattle.pim_builder.specs.Views.{holder_in, program_at}
-use Rattle.pim_builder.proofs.Framing.{leaves_mutex, leaves_refl, owns_none, owns_none_first, owns_none_next}
-use Rattle.pim_builder.proofs.Framing.{owns_none_released, released_count}
+use Rattle.pim_builder.proofs.Framing.{frees_on, frees_refl, leaves_mutex, leaves_refl, owns_none, owns_none_first}
+use Rattle.pim_builder.proofs.Framing.{owns_none_next, owns_none_released, released_count, released_frees}
 use Rattle.pim_builder.proofs.GoingOn.{goes_on_refl, goes_on_trans}
 use Rattle.pim_builder.proofs.pieces.Pieces.release_all.Goals.{then-eq+in_ok-observe, else-eq}
 use Rattle.pim_builder.proofs.pieces.Pieces.release_all.Goals as goal
@@ -10,6 +10,7 @@ pub loop-place-init : goal.loop-place-init
 loop-place-init c = record {
   on = goes_on_refl c.args.now.now.time c.args.self.now;
   only = leaves_refl c.args.task (program_at c.args.self.now);
+  frees = frees_refl (program_at c.args.self.now);
   waits = refl;
   released = owns_none_first c.args.task (program_at c.args.self.now);
   owners = search rules;
@@ -29,6 +30,9 @@ loop-place-preserved c =
                 w.in_ok-observe.ensures.on;
             only = leaves_mutex c.args.task (c.loop-place.place + 1) (program_at c.args.self.now)
                 (program_at c.loop-place.self) (program_at w.observe.new.self) before.only owns same;
+            frees = frees_on (program_at c.args.self.now) (program_at c.loop-place.self) (program_at w.observe.new.self)
+                before.frees (released_frees c.args.task (c.loop-place.place + 1) (program_at c.loop-place.self)
+                (program_at w.observe.new.self) same);
             waits = same.waits c.args.task ∙ before.waits;
             released = owns_none_released c.args.task c.loop-place.place (program_at c.loop-place.self)
                 (program_at w.observe.new.self) before.released same;
@@ -42,6 +46,7 @@ loop-place-preserved c =
           rw w.self-is (record {
             on = before.on;
             only = before.only;
+            frees = before.frees;
             waits = before.waits;
             released = owns_none_next c.args.task c.loop-place.place (program_at c.loop-place.self) before.released other;
             owners = before.owners;

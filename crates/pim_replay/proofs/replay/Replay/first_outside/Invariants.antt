@@ -1,7 +1,10 @@
-use Rattle.std.proofs.Common.{◌≡◌, Some, IfSome}
-use Rattle.pim_replay.specs.Replays.{program_wait}
+use Rattle.std.proofs.Common.{◌≤◌}
+use Rattle.pim_replay.proofs.Outside.{IsFirstOutside}
 use Rattle.pim_replay.proofs.replay.Replay.first_outside.Given as goal
 
--- the first so far waits for the mutex
-abbrev pub invariant-loop-number : goal.invariant-loop-number
-invariant-loop-number l = IfSome l.first (λ first. (program_wait l.self first.0 ≡ Some first.1) × (first.1.mutex ≡ l.mutex))
+-- the first of the tasks so far
+abbrev pub invariant-loop-place : goal.invariant-loop-place
+invariant-loop-place l = record {
+  first : IsFirstOutside l.self l.mutex l.fn.from l.place l.first;
+  within : l.place ≤ l.tasks;
+}

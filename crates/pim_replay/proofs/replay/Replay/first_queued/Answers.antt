@@ -1,6 +1,6 @@
 use Rattle.std.proofs.Common.{◌≡◌, ◌<◌, ◌≤◌, ◌+◌, ℕ, List, All, IfSome, IfNone, IsTrue, Option, Some, None, length, take}
 use Rattle.std.proofs.Common.{get_or}
-use Rattle.std.proofs.Common.{Bool, false, is_some, sym, ap, subst, arith, rules}
+use Rattle.std.proofs.Common.{Bool, false, sym, ap, subst, arith, rules}
 use Rattle.std.specs.Option.{option_copied}
 use Rattle.std.proofs.lemmas.Option.{IfSome_then}
 use Rattle.std.proofs.lemmas.List.{take_all}
@@ -21,7 +21,7 @@ returns-in_err-waiter-items-clause-none c =
     c.manager-2.ensures c.tasks-steady.ensures.steady c.waiters.ensures.queue (ap option_copied c.in_err-waiter-items.was))
 
 pub loop-waiter-init : goal.loop-waiter-init
-loop-waiter-init c = record { queued = tt; none = search rules }
+loop-waiter-init c = record { queued = tt; later = tt; none = search rules }
 
 if_none : {X : Type 0} (o : Option X) (P : Type 0) → P → IfNone o P
 if_none None P p = p
@@ -58,13 +58,6 @@ behind_all :
 behind_all P (Some x) ws i Q past all so = tt
 behind_all P None ws i Q past all so = so (subst (All P) (take_all i ws past) all)
 
--- what holds if there is none of one, holds if there is none of the other
-same_none : {X Y : Type 0} (o : Option X) (r : Option Y) (Q : Type 0) → is_some r ≡ is_some o → IfNone o Q → IfNone r Q
-same_none None None Q e q = q
-same_none None (Some y) Q e q = absurd (cc e)
-same_none (Some x) None Q e q = absurd (cc e)
-same_none (Some x) (Some y) Q e q = tt
-
 pub loop-waiter-preserved : goal.loop-waiter-preserved
 loop-waiter-preserved c = elim c.if-from-number.branch [
   | then-from-number+then-is_lower w ↦
@@ -73,11 +66,14 @@ loop-waiter-preserved c = elim c.if-from-number.branch [
             c.in_ok-waiter-items.waiter-items.now c.waiter-item.result _ c.manager.ensures c.manager-2.ensures
             c.tasks-steady.ensures.steady c.waiters.ensures.queue (ap option_copied c.in_ok-waiter-items.was)
             (c.loop-waiter.waiter-index, c.loop-waiter-test.true, sym c.waiter-item.is);
+        later = IfSome_then (program_wait c.args.self.now c.waiter-item.result.task) c.number_of-number.ensures
+            (λ x e. omega (arith, e, w.if-from-number.true));
         none = tt;
       })
   | else-from-number w ↦
       rw w.first-is (record {
         queued = c.loop-waiter.invariant.queued;
+        later = c.loop-waiter.invariant.later;
         none = behind_next (program_wait c.args.self.now) c.args.from c.loop-waiter.first
             c.in_ok-waiter-items.waiter-items.now c.loop-waiter.waiter-index c.waiter-item.result c.number_of-number.result
             c.loop-waiter-test.true c.waiter-item.is c.number_of-number.ensures
@@ -92,17 +88,16 @@ loop-waiter-preserved c = elim c.if-from-number.branch [
       })
 ]
 
-pub returns-clause-queued : goal.returns-clause-queued
-returns-clause-queued c = search rules
-
-pub returns-clause-none : goal.returns-clause-none
-returns-clause-none c =
-    let all : IfNone c.loop-waiter.first (IsBehindAll c.args.self.now c.args.mutex c.args.from) =
+pub returns-in_err-task-clause-none : goal.returns-in_err-task-clause-none
+returns-in_err-task-clause-none c =
+    let Q : Type 0 = IsBehindAll c.args.self.now c.args.mutex c.args.from in
+    let all : IfNone c.loop-waiter.first Q =
     behind_all (λ (w : Waiter). IfSome (program_wait c.args.self.now w.task) (λ (x : Wait). x.ticket < c.args.from))
-    c.loop-waiter.first c.in_ok-waiter-items.waiter-items.now c.loop-waiter.waiter-index _ c.loop-waiter-test.false
+    c.loop-waiter.first c.in_ok-waiter-items.waiter-items.now c.loop-waiter.waiter-index Q c.loop-waiter-test.false
     c.loop-waiter.invariant.none
     (shown_behind c.args.self.now c.manager.result.now c.manager-2.result.now c.args.mutex c.args.from
     c.in_ok-waiter-items.waiter-items.now _ c.manager.ensures c.manager-2.ensures c.tasks-steady.ensures.steady
     c.waiters.ensures.queue
     (ap option_copied c.in_ok-waiter-items.was)) in
-    same_none c.loop-waiter.first c.map.result _ c.map.ensures.variant all
+    let behind : Q = subst (λ o. IfNone o Q) c.in_err-task.was all in
+    subst (λ o. IfNone o Q) (sym c.from_residual-in_err-task.ensures) behind

@@ -1,10 +1,12 @@
-use Rattle.std.proofs.Common.{◌≡◌, Bool, true, false, cond, Some, inl, inr, subst, ap, ◌∙◌, rules}
+use Rattle.std.proofs.Common.{◌≡◌, ◌≢◌, ℕ, Bool, true, false, cond, Some, inl, inr, subst, ap, ◌∙◌, rules}
 use Rattle.std.proofs.lemmas.Result.{IfOk-weaker}
 use Rattle.pim_base.specs.Steps.{reply_of}
 use Rattle.pim_base.specs.declared.steps.Reply.{Reply}
 use Rattle.pim_replay.specs.Replays.{ReplayState, Program, Continues, IsNoReturn, IsNotPassedOn, IsNotReleased}
-use Rattle.pim_replay.specs.Replays.{IsOtherwise, IsSame, StaysInOrder}
+use Rattle.pim_replay.specs.Replays.{IsOtherwise, IsSame, KeepsQueue, StaysInOrder}
 use Rattle.pim_replay.specs.Replays.{Stops, given, lock, program_of, unlock, without_wait}
+use Rattle.pim_replay.proofs.Joining.{freed_wait, granted_wait, handed_wait, handed_waits, join_earlier, keeps_same}
+use Rattle.pim_replay.proofs.Joining.{keeps_trans, left_keeps}
 use Rattle.pim_replay.proofs.Replaying.{continues_ended, continues_refl, continues_trans, freed_granted_same}
 use Rattle.pim_replay.proofs.Replaying.{handed_same, same_trans}
 use Rattle.pim_replay.proofs.Staying.{order_freed_granted, order_handed}
@@ -16,6 +18,7 @@ here :
     (c : After-rejoin)
     → IsSame (given (program_of c.args.self.now) c.args.mutex (Some c.args.next)) (program_of c.end_wait.new.self)
     × StaysInOrder c.args.self.now c.end_wait.new.self
+    × ((n : ℕ) → c.args.mutex ≢ n → KeepsQueue c.args.self.now c.end_wait.new.self n)
 here c =
     let r : ReplayState = c.args.self.now in
     let p : ReplayState = c.pass_on.new.self in
@@ -25,7 +28,9 @@ here c =
     let u = c.args.next in
     let passed = c.in_ok-pass_on.ensures in
     let F : Bool → Type 0 = λ b. reply_of r.state (unlock t m) ≡ cond b Reply.Freed (Reply.Handed u) in
-    elim c.if-branch.branch as (λ _. IsSame (given (program_of r) m (Some u)) (program_of s) × StaysInOrder r s) [
+    let All : Type 0 =
+    IsSame (given (program_of r) m (Some u)) (program_of s) × StaysInOrder r s × ((n : ℕ) → m ≢ n → KeepsQueue r s n) in
+    elim c.if-branch.branch as (λ _. All) [
       | then-branch+in_ok-require_lock w ↦
           let q : ReplayState = w.require_lock.new.self in
           let yes : c.in_ok-pass_on.field-0 ≡ true = search (rules, w.if-branch.true) in
@@ -34,12 +39,21 @@ here c =
           let ended : s ≡ without_wait q u = c.end_wait.ensures ∙ ap (λ x. without_wait x u) w.self-is in (
             freed_granted_same r p q s t m u freed passed.made locked.0 locked.1 ended,
             order_freed_granted r p q s t m u freed passed.made locked.0 locked.1 ended,
+            λ n ne. keeps_same r s
+                (ap (λ (x : ReplayState). x.state.wait) ended ∙ granted_wait p q u m locked.0 locked.1
+                ∙ freed_wait r p t m freed passed.made) n,
           )
       | else-branch w ↦
           let no : c.in_ok-pass_on.field-0 ≡ false = search (rules, w.if-branch.false) in
           let handed : reply_of r.state (unlock t m) ≡ Reply.Handed u = subst F no passed.reply in
-          let ended : s ≡ without_wait p u = c.end_wait.ensures ∙ ap (λ x. without_wait x u) w.self-is in
-          (handed_same r p s t m u handed passed.made ended, order_handed r p s t m u handed passed.made ended)
+          let ended : s ≡ without_wait p u = c.end_wait.ensures ∙ ap (λ x. without_wait x u) w.self-is in (
+            handed_same r p s t m u handed passed.made ended,
+            order_handed r p s t m u handed passed.made ended,
+            λ n ne. keeps_trans r p s n
+                (left_keeps r p u m (handed_wait r p t m u handed passed.made)
+                (handed_waits r.state t m u passed.steady handed) n ne)
+                (keeps_same p s (ap (λ (x : ReplayState). x.state.wait) ended) n),
+          )
     ]
 
 pub returns-clause-given : goal.returns-clause-given
@@ -70,6 +84,18 @@ before c =
           continues_trans r p s c.in_ok-pass_on.ensures.continues
           (continues_ended p s u (c.end_wait.ensures ∙ ap (λ x. without_wait x u) w.self-is))
     ]
+
+pub returns-clause-join : goal.returns-clause-join
+returns-clause-join c =
+    IfOk-weaker c.rejoin.result _ _
+    (λ x join. join_earlier c.args.self.now c.end_wait.new.self c.rejoin.new.self c.args.mutex (here c).1 (before c) join)
+    c.rejoin.ensures.join
+
+pub returns-clause-others : goal.returns-clause-others
+returns-clause-others c =
+    IfOk-weaker c.rejoin.result _ _
+    (λ x others n ne. keeps_trans c.args.self.now c.end_wait.new.self c.rejoin.new.self n ((here c).2 n ne) (others n ne))
+    c.rejoin.ensures.others
 
 pub returns-clause-continues : goal.returns-clause-continues
 returns-clause-continues c = continues_trans c.args.self.now c.end_wait.new.self c.rejoin.new.self (before c)

@@ -1,28 +1,35 @@
-use Rattle.std.proofs.Common.{◌≡◌, None, Some, IsTrue, IsFalse, inl, inr, ap, ◌∙◌, rules}
+use Rattle.std.proofs.Common.{◌≡◌, ◌≢◌, ℕ, None, Some, IsTrue, IsFalse, inl, inr, ap, ◌∙◌, rules}
 use Rattle.pim_base.specs.State.{owner_of, wait_of}
 use Rattle.pim_base.specs.declared.steps.Reply.{Reply}
 use Rattle.pim_base.specs.declared.steps.Step.{Step}
-use Rattle.pim_replay.specs.Replays.{ReplayState, Continues, Has, IsNoReturn, IsNotGranted, IsOtherwise, IsSame}
-use Rattle.pim_replay.specs.Replays.{Observes, StaysInOrder, Stops}
+use Rattle.pim_replay.specs.Replays.{ReplayState, AllJoin, Continues, Has, IsNoReturn, IsNotGranted, IsOtherwise}
+use Rattle.pim_replay.specs.Replays.{IsSame, KeepsQueue, Observes, StaysInOrder, Stops}
 use Rattle.pim_replay.specs.Replays.{given, lock, program_of, without_wait}
 use Rattle.pim_replay.specs.declared.observation.Observation.TheVariants.{Granted}
+use Rattle.pim_replay.proofs.Joining.{granted_wait, join_earlier, keeps_same, keeps_trans, observes_given}
 use Rattle.pim_replay.proofs.Queueing.{in_order_ended}
 use Rattle.pim_replay.proofs.Replaying.{continues_ended, continues_refl, continues_trans, granted_same, idle_asks}
 use Rattle.pim_replay.proofs.Replaying.{owned_same, same_trans}
 use Rattle.pim_replay.proofs.Staying.{order_granted}
-use Rattle.pim_replay.proofs.Stopping.{fails_after, ok_both, returns_same, stops_after}
+use Rattle.pim_replay.proofs.Stopping.{fails_after, ok_four, returns_same, stops_after}
 use Rattle.pim_replay.proofs.replay.Replay.grant.Goals.{After-rejoin, then-is_queued+in_ok-require_lock}
 use Rattle.pim_replay.proofs.replay.Replay.grant.Goals.{then-is_queued-via-then-is_queued}
 use Rattle.pim_replay.proofs.replay.Replay.grant.Goals.{then-is_queued-via-else-is_queued+then-ne, else-is_queued+else-ne}
 use Rattle.pim_replay.proofs.replay.Replay.grant.Goals as goal
 
-here : (c : After-rejoin) → Observes c.args.self.now (Granted c.args.task c.args.mutex) c.end_wait.new.self
+here :
+    (c : After-rejoin)
+    → IsSame (given (program_of c.args.self.now) c.args.mutex (Some c.args.task)) (program_of c.end_wait.new.self)
+    × StaysInOrder c.args.self.now c.end_wait.new.self
+    × (c.end_wait.new.self.state.wait ≡ c.args.self.now.state.wait)
 here c =
     let r : ReplayState = c.args.self.now in
     let s : ReplayState = c.end_wait.new.self in
     let t = c.args.task in
     let m = c.args.mutex in
-    elim c.if-is_queued.branch as (λ _. Observes r (Granted t m) s) [
+    let All : Type 0 =
+    IsSame (given (program_of r) m (Some t)) (program_of s) × StaysInOrder r s × (s.state.wait ≡ r.state.wait) in
+    elim c.if-is_queued.branch as (λ _. All) [
       | then-is_queued+in_ok-require_lock w ↦
           let q : ReplayState = w.require_lock.new.self in
           let made = w.in_ok-require_lock.ensures.made in
@@ -35,19 +42,19 @@ here c =
                 let yes : IsTrue c.is_queued.result = search (rules, v.if-is_queued) in
                 c.is_queued.ensures.queued yes idle
             | then-is_queued-via-else-is_queued+then-ne v ↦ search (rules, v.if-ne, v.ne.ensures, v.owner.ensures, owns)
-          ] in
-          record {
-            same = granted_same r q s t m made.0 other made.1 ended;
-            order = order_granted r q s t m made.0 other made.1 ended;
-          }
+          ] in (
+            granted_same r q s t m made.0 other made.1 ended,
+            order_granted r q s t m made.0 other made.1 ended,
+            ap (λ (x : ReplayState). x.state.wait) ended ∙ granted_wait r q t m made.0 made.1,
+          )
       | else-is_queued+else-ne w ↦
           let ended : s ≡ without_wait r t = c.end_wait.ensures ∙ ap (λ x. without_wait x t) w.self-is in
           let no : IsFalse c.is_queued.result = search (rules, w.if-is_queued) in
-          let owns : owner_of r.state m ≡ Some t = search (rules, w.if-ne, w.ne.ensures, w.owner.ensures) in
-          record {
-            same = owned_same r s t m owns ended;
-            order = λ ok. in_order_ended r s t ended (c.is_queued.ensures.idle no ok) ok;
-          }
+          let owns : owner_of r.state m ≡ Some t = search (rules, w.if-ne, w.ne.ensures, w.owner.ensures) in (
+            owned_same r s t m owns ended,
+            λ ok. in_order_ended r s t ended (c.is_queued.ensures.idle no ok) ok,
+            ap (λ (x : ReplayState). x.state.wait) ended,
+          )
     ]
 
 before : (c : After-rejoin) → Continues c.args.self.now c.end_wait.new.self
@@ -71,12 +78,15 @@ returns-clause-observed c =
     let t = c.args.task in
     let m = c.args.mutex in
     let at = here c in
-    ok_both c.rejoin.result (IsSame (program_of s) (program_of e)) (StaysInOrder s e) (Observes r (Granted t m) e)
-    (λ same order. record {
-      same = same_trans (given (program_of r) m (Some t)) (program_of s) (program_of e) at.same same;
-      order = λ ok. order (at.order ok);
-    })
-    c.rejoin.ensures.same c.rejoin.ensures.order
+    ok_four c.rejoin.result (IsSame (program_of s) (program_of e)) (StaysInOrder s e) (AllJoin s e m)
+    ((n : ℕ) → m ≢ n → KeepsQueue s e n) (Observes r (Granted t m) e)
+    (λ same order join others.
+    let all : IsSame (given (program_of r) m (Some t)) (program_of e) =
+    same_trans (given (program_of r) m (Some t)) (program_of s) (program_of e) at.0 same in
+    observes_given r e (Granted t m) m (Some t) (λ k is. is) all all.owner (λ ok. order (at.1 ok))
+    (join_earlier r s e m at.1 (before c) join)
+    (λ n ne. keeps_trans r s e n (keeps_same r s at.2 n) (others n ne)))
+    c.rejoin.ensures.same c.rejoin.ensures.order c.rejoin.ensures.join c.rejoin.ensures.others
 
 pub returns-clause-continues : goal.returns-clause-continues
 returns-clause-continues c = continues_trans c.args.self.now c.end_wait.new.self c.rejoin.new.self (before c)
@@ -90,7 +100,7 @@ returns-clause-fault c =
     let m = c.args.mutex in
     fails_after r s c.rejoin.new.self (IsNoReturn (program_of s) m) (IsNotGranted (program_of r) t m) c.rejoin.result
     (before c)
-    (λ step reply so. inr (returns_same (given (program_of r) m (Some t)) (program_of s) m (here c).same step reply so))
+    (λ step reply so. inr (returns_same (given (program_of r) m (Some t)) (program_of s) m (here c).0 step reply so))
     c.rejoin.ensures.fault
 
 pub returns-in_err-require_lock-clause-fault : goal.returns-in_err-require_lock-clause-fault

@@ -1,13 +1,15 @@
-use Rattle.std.proofs.Common.{◌≡◌, ◌∙◌, ℕ, Option, None, Some, subst, sym}
+use Rattle.std.proofs.Common.{◌≡◌, ◌≢◌, ◌∙◌, ℕ, Option, None, Some, subst, sym}
 use Rattle.std.proofs.lemmas.Result.{IfOk-weaker}
 use Rattle.pim_base.specs.declared.steps.Reply.{Reply}
-use Rattle.pim_replay.specs.Replays.{ReplayState, Program, IsNotReleased, IsOtherwise, IsSame, Observes, StaysInOrder}
-use Rattle.pim_replay.specs.Replays.{given, program_of}
+use Rattle.pim_replay.specs.Replays.{ReplayState, Program, AllJoin, IsNotReleased, IsOtherwise, IsSame}
+use Rattle.pim_replay.specs.Replays.{KeepsQueue, Observes, StaysInOrder, given, program_of}
 use Rattle.pim_replay.specs.Replays.{unlock, waiting_for}
+use Rattle.pim_replay.specs.declared.observation.Observation.{Observation}
 use Rattle.pim_replay.specs.declared.observation.Observation.TheVariants.{Released}
+use Rattle.pim_replay.proofs.Joining.{free_now, freed_wait, join_earlier, join_free, keeps_same, keeps_trans, observes_given}
 use Rattle.pim_replay.proofs.Replaying.{freed_same, same_given, same_trans}
 use Rattle.pim_replay.proofs.Staying.{order_freed}
-use Rattle.pim_replay.proofs.Stopping.{fails_after, ok_both, released_same}
+use Rattle.pim_replay.proofs.Stopping.{fails_after, ok_four, released_same}
 use Rattle.pim_replay.proofs.replay.Replay.hand_on.Goals as goal
 
 pub returns-in-Some-clause-observed : goal.returns-in-Some-clause-observed
@@ -23,14 +25,16 @@ returns-in-Some-clause-observed c =
     let is : Some u ≡ next = sym c.in-Some.is ∙ c.waiting_for-next.ensures in
     let over = c.in_ok-pass_over.ensures in
     let P : Option ℕ → Type 0 = λ o. IsSame (given p m o) (program_of s) in
-    ok_both c.give.result (IsSame (given q m (Some u)) (program_of s)) (StaysInOrder left s)
-    (Observes r (Released c.args.task m c.args.next) s)
-    (λ same order. record {
-      same = subst P is (same_trans (given p m (Some u)) (given q m (Some u)) (program_of s)
-          (same_given p q m (Some u) over.same) same);
-      order = λ ok. order (over.order ok);
-    })
-    c.give.ensures.given c.give.ensures.order
+    let o : Observation = Released c.args.task m c.args.next in
+    ok_four c.give.result (IsSame (given q m (Some u)) (program_of s)) (StaysInOrder left s) (AllJoin left s m)
+    ((n : ℕ) → m ≢ n → KeepsQueue left s n) (Observes r o s)
+    (λ given_on order join others.
+    let same : IsSame (given p m (Some u)) (program_of s) =
+    same_trans (given p m (Some u)) (given q m (Some u)) (program_of s) (same_given p q m (Some u) over.same) given_on in
+    observes_given r s o m (Some u) (λ k is. is) (subst P is same) same.owner (λ ok. order (over.order ok))
+    (join_earlier r left s m over.order over.continues join)
+    (λ n ne. keeps_trans r left s n (over.others n ne) (others n ne)))
+    c.give.ensures.given c.give.ensures.order c.give.ensures.join c.give.ensures.others
 
 pub returns-in-None-clause-observed : goal.returns-in-None-clause-observed
 returns-in-None-clause-observed c =
@@ -46,11 +50,14 @@ returns-in-None-clause-observed c =
     let over = c.in_ok-pass_over.ensures in
     let P : Option ℕ → Type 0 = λ o. IsSame (given p m o) (program_of s) in
     IfOk-weaker c.require_free.result _ _
-    (λ _ made. record {
-      same = subst P is (same_trans (given p m None) (given q m None) (program_of s) (same_given p q m None over.same)
-          (freed_same left s t m made.0 made.1));
-      order = λ ok. order_freed left s t m made.0 made.1 (over.order ok);
-    })
+    (λ _ made.
+    let same : IsSame (given p m None) (program_of s) =
+    same_trans (given p m None) (given q m None) (program_of s) (same_given p q m None over.same)
+    (freed_same left s t m made.0 made.1) in
+    observes_given r s (Released t m c.args.next) m None (λ k is. is) (subst P is same) same.owner
+    (λ ok. order_freed left s t m made.0 made.1 (over.order ok))
+    (join_free r s m (free_now r s m same.owner))
+    (λ n ne. keeps_trans r left s n (over.others n ne) (keeps_same left s (freed_wait left s t m made.0 made.1) n)))
     c.require_free.ensures.made
 
 pub returns-in-Some-clause-fault : goal.returns-in-Some-clause-fault

@@ -1,13 +1,14 @@
-use Rattle.std.proofs.Common.{inl, inr, rules}
+use Rattle.std.proofs.Common.{◌≡◌, ◌≢◌, ℕ, Some, IfSome, inl, inr, rules}
 use Rattle.pim_base.specs.declared.steps.Op.{Op}
 use Rattle.pim_base.specs.declared.steps.Reply.{Reply}
 use Rattle.pim_base.specs.declared.steps.Step.{Step}
-use Rattle.pim_replay.specs.Replays.{ReplayState, Program, Contradicts, IsNotBack, IsNotSet, IsSame, Observes}
-use Rattle.pim_replay.specs.Replays.{StaysInOrder, Stops, observed, program_of}
+use Rattle.pim_replay.specs.Replays.{ReplayState, Program, AllJoin, Contradicts, IsNoReturn, IsNotSet, IsSame}
+use Rattle.pim_replay.specs.Replays.{KeepsQueue, Observes, StaysInOrder, Stops, observed, program_of}
 use Rattle.pim_replay.specs.declared.observation.Observation.{Observation}
 use Rattle.pim_replay.specs.declared.observation.Observation.TheVariants.{Ceiling}
+use Rattle.pim_replay.proofs.Joining.{observes_around}
 use Rattle.pim_replay.proofs.Replaying.{same_ceiling, same_trans, continues_trans}
-use Rattle.pim_replay.proofs.Stopping.{back_same, fails_after, ok_both, stops_after}
+use Rattle.pim_replay.proofs.Stopping.{fails_after, ok_four, returns_same, stops_after}
 use Rattle.pim_replay.proofs.replay.Replay.set_ceiling.Goals.{After-step_in}
 use Rattle.pim_replay.proofs.replay.Replay.set_ceiling.Goals as goal
 
@@ -25,15 +26,20 @@ here c =
 pub returns-clause-observed : goal.returns-clause-observed
 returns-clause-observed c =
     let r : ReplayState = c.args.self.now in
-    let q : ReplayState = c.put_ceiling.new.self in
+    let a : ReplayState = c.step_out_owner.new.self in
+    let b : ReplayState = c.put_ceiling.new.self in
     let s : ReplayState = c.step_in.new.self in
+    let left = c.in_ok-left.left in
     let o : Observation = Ceiling c.args.mutex c.args.ceiling in
-    ok_both c.step_in.result (IsSame (program_of q) (program_of s)) (StaysInOrder q s) (Observes r o s)
-    (λ same order. record {
-      same = same_trans (observed (program_of r) o) (program_of q) (program_of s) (here c) same;
-      order = λ ok. order (c.in_ok-put_ceiling.ensures.observed.order (c.in_ok-left.ensures.order ok));
-    })
-    c.step_in.ensures.same c.step_in.ensures.order
+    let out = c.in_ok-left.ensures in
+    ok_four c.step_in.result (IsSame (program_of b) (program_of s)) (StaysInOrder b s) (IfSome left (AllJoin b s))
+    ((m : ℕ) → left ≢ Some m → KeepsQueue b s m) (Observes r o s)
+    (λ same order join others.
+    observes_around r a b s left o (same_trans (observed (program_of r) o) (program_of b) (program_of s) (here c) same)
+    (record { same = out.same; order = out.order; continues = out.continues }) out.others
+    c.in_ok-put_ceiling.ensures.observed c.in_ok-put_ceiling.ensures.continues
+    (record { same = same; order = order; continues = c.step_in.ensures.continues }) join others)
+    c.step_in.ensures.same c.step_in.ensures.order c.step_in.ensures.join c.step_in.ensures.others
 
 pub returns-clause-fault : goal.returns-clause-fault
 returns-clause-fault c =
@@ -42,9 +48,17 @@ returns-clause-fault c =
     let q : ReplayState = c.put_ceiling.new.self in
     let s : ReplayState = c.step_in.new.self in
     let o : Observation = Ceiling c.args.mutex c.args.ceiling in
-    fails_after r q s (IsNotBack (program_of q)) (Contradicts (program_of r) o) c.step_in.result
+    let back : Step → Reply → Type 0 =
+    λ step reply. (m : ℕ) × (c.in_ok-left.left ≡ Some m) × IsNoReturn (program_of q) m step reply in
+    fails_after r q s back (Contradicts (program_of r) o) c.step_in.result
     (continues_trans r left q c.in_ok-left.ensures.continues c.in_ok-put_ceiling.ensures.continues)
-    (λ step reply so. inr (back_same (observed (program_of r) o) (program_of q) (here c) step reply so))
+    (λ step reply so.
+    let stepped_out = c.in_ok-left.ensures.left so.0 so.1 in
+    inr (
+      stepped_out.0,
+      stepped_out.1,
+      (so.0, stepped_out.2, returns_same (observed (program_of r) o) (program_of q) so.0 (here c) step reply so.2),
+    ))
     c.step_in.ensures.fault
 
 pub returns-in_err-put_ceiling-clause-fault : goal.returns-in_err-put_ceiling-clause-fault

@@ -1,4 +1,6 @@
-use Rattle.pim_replay.specs.Replays.{ReplayState, IsNoReturn, IsNotBack, program_of}
+use Rattle.std.proofs.Common.{◌≡◌, ◌∙◌, ℕ, Some, ap}
+use Rattle.std.proofs.lemmas.Result.{IfOk-weaker}
+use Rattle.pim_replay.specs.Replays.{ReplayState, IsNoReturn, program_of}
 use Rattle.pim_replay.proofs.Replaying.{continues_refl}
 use Rattle.pim_replay.proofs.Stopping.{fails_after}
 use Rattle.pim_replay.proofs.replay.Replay.step_in.Goals as goal
@@ -7,6 +9,12 @@ pub returns-in-Some-clause-fault : goal.returns-in-Some-clause-fault
 returns-in-Some-clause-fault c =
     let r : ReplayState = c.args.self.now in
     let m = c.in-Some.mutex in
-    fails_after r r c.rejoin.new.self (IsNoReturn (program_of r) m) (IsNotBack (program_of r)) c.rejoin.result
+    fails_after r r c.rejoin.new.self (IsNoReturn (program_of r) m)
+    (λ step reply. (n : ℕ) × (c.args.mutex ≡ Some n) × IsNoReturn (program_of r) n step reply) c.rejoin.result
     (continues_refl r)
-    (λ step reply so. (m, so)) c.rejoin.ensures.fault
+    (λ step reply so. (m, c.in-Some.is, so)) c.rejoin.ensures.fault
+
+pub returns-in-Some-clause-others : goal.returns-in-Some-clause-others
+returns-in-Some-clause-others c =
+    IfOk-weaker c.rejoin.result _ _ (λ x others n ne. others n (λ is. ne (c.in-Some.is ∙ ap Some is)))
+    c.rejoin.ensures.others

@@ -5,6 +5,7 @@ use Rattle.pim_base.specs.declared.steps.Step.{Step}
 use Rattle.pim_replay.specs.Replays.{ReplayState, Continues, IsNoWait, MayTake, Observes, Stops, begun, mutex_of}
 use Rattle.pim_replay.specs.Replays.{program_of, with_next_wait}
 use Rattle.pim_replay.specs.declared.observation.Observation.TheVariants.{Waits}
+use Rattle.pim_replay.proofs.Joining.{asked_keeps, keeps_same, keeps_trans, stay_kept}
 use Rattle.pim_replay.proofs.Queueing.{begun_behind, in_order_begun}
 use Rattle.pim_replay.proofs.Replaying.{asked_same, begun_awaits, begun_same, continues_begun, continues_refl, same_trans}
 use Rattle.pim_replay.proofs.Staying.{asked_idle, queued_if_it_may}
@@ -24,6 +25,9 @@ returns-then-is_free-clause-observed c =
     record {
       same = begun_same r s t m known.0 known.1 begins;
       order = λ ok. in_order_begun r s t m begins (c.may_wait.ensures.idle yes ok) ok;
+      queued = stay_kept r s (keeps_same r s (ap (λ (x : ReplayState). x.state.wait) begins))
+          (ap (λ (x : ReplayState). x.state.owner) begins);
+      given = λ k is. absurd is;
     }
 
 pub returns-clause-observed : goal.returns-clause-observed
@@ -48,6 +52,13 @@ returns-clause-observed c =
                 asked.order (ap mutex_of (begun_awaits r now t m known.0 known.1 begins))
                 (begun_behind r now t m m ok begins idle)
                 (in_order_begun r now t m begins idle ok);
+            queued =
+                stay_kept r s
+                (λ n. keeps_trans r now s n (keeps_same r now (ap (λ (x : ReplayState). x.state.wait) begins) n)
+                (asked_keeps now s t m c.in_ok-queue.field-0 asked.queued n))
+                ((asked_same now s t m c.in_ok-queue.field-0 asked.queued).owner
+                ∙ ap (λ (x : ReplayState). x.state.owner) begins);
+            given = λ k is. absurd is;
           }
       | else-may_wait w ↦
           let P : ReplayState → Type 0 = λ x. IsTask x.state t × (wait_of x.state t ≡ None) in
@@ -88,7 +99,7 @@ returns-in_err-queue-clause-fault c =
 pub returns-then-is_free-clause-queued : goal.returns-then-is_free-clause-queued
 returns-then-is_free-clause-queued c =
     let free = c.is_free.ensures.0 (search (rules, c.if-is_free.true)) in
-    inr (inl free.1)
+    inl (inr free.1)
 
 pub returns-clause-queued : goal.returns-clause-queued
 returns-clause-queued c =
