@@ -6,7 +6,7 @@ use Rattle.std.proofs.lemmas.List.Elements.{All-append, All-cons, All-nil, All-w
 use Rattle.pim_base.specs.Lists.{put}
 use Rattle.pim_facts.specs.declared.fact.Fact.{Fact}
 use Rattle.pim_replay.specs.Priorities.{priority_of}
-use Rattle.pim_replay.specs.declared.piece.Piece.{Piece}
+use Rattle.pim_builder.specs.declared.piece.Piece.{Piece}
 use Rattle.pim_replay.specs.Replays.{IsInOrder, ReplayState}
 use Rattle.pim_builder.specs.Frames.{AllJoinBy, KeepsOthers}
 use Rattle.pim_builder.specs.Views.{program_at, view_of}

@@ -5,7 +5,7 @@ use Rattle.std.proofs.lemmas.List.{append-nil, length-append, length-replicate, 
 use Rattle.std.proofs.lemmas.List.Concat.{flat_map-append}
 use Rattle.std.proofs.lemmas.List.Sums.{sum_by-append, sum_by-cons, sum_by_push}
 use Rattle.pim_replay.specs.Replays.{ReplayState, Continues, StaysInOrder}
-use Rattle.pim_replay.specs.declared.piece.Piece.{Piece}
+use Rattle.pim_builder.specs.declared.piece.Piece.{Piece}
 use Rattle.pim_replay.proofs.Replaying.{continues_refl, continues_trans}
 use Rattle.pim_builder.specs.Pieces.{Point, EndWith, IsContinued, IsIn, Reaches, HasTimes, times_of, GoesOn}
 use Rattle.pim_builder.specs.Pieces.{KeepsQueues, own_steps, steps_of}

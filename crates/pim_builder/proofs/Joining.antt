@@ -1,7 +1,7 @@
 -- Pieces that follow each other, as the last one goes on, and one more.
 use Rattle.std.proofs.Common.{◌≡◌, ◌∙◌, sym, List, [], ◌∷◌, ◌++◌, length}
 use Rattle.pim_replay.specs.Replays.{Continues, StaysTheSame, KeepsOrder}
-use Rattle.pim_replay.specs.declared.piece.Piece.{Piece}
+use Rattle.pim_builder.specs.declared.piece.Piece.{Piece}
 use Rattle.pim_replay.proofs.Replaying.{continues_refl, continues_trans}
 use Rattle.pim_builder.specs.Pieces.{Follows, FollowEach, AreJoined}
 

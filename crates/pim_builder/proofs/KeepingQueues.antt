@@ -19,7 +19,7 @@ use Rattle.pim_replay.specs.Replays.{Program, ReplayState, StaysInOrder, StaysTh
 use Rattle.pim_replay.specs.Replays.{awaited, given, mutex_of, observed, program_of, program_wait, waiting_for}
 use Rattle.pim_replay.specs.declared.observation.Observation.{Observation}
 use Rattle.pim_replay.specs.declared.observation.Observation.TheVariants.{Granted, Waits, GaveUp, Released, Base, Ceiling}
-use Rattle.pim_replay.specs.declared.piece.Piece.{Piece}
+use Rattle.pim_builder.specs.declared.piece.Piece.{Piece}
 use Rattle.pim_builder.specs.Frames.{AllJoinBy, changed_by_fact}
 use Rattle.pim_builder.specs.Pieces.{AllJoinAt, GoesOn, IsBackAt, IsRefusedAmong, KeepsQueues, Point, Reaches, entries_of}
 use Rattle.pim_builder.proofs.Framing.{by_observation}

@@ -6,7 +6,7 @@ use Rattle.pim_base.specs.declared.steps.Refusal.{Refusal}
 use Rattle.pim_base.specs.declared.steps.Reply.{Reply}
 use Rattle.pim_replay.specs.Replays.{ReplayState, Continues, IsInOrder, IsQueuedIfOwned, KeepsOrder, StaysInOrder}
 use Rattle.pim_replay.specs.Replays.{StaysTheSame, awaited, lock, program_wait}
-use Rattle.pim_replay.specs.declared.piece.Piece.{Piece}
+use Rattle.pim_builder.specs.declared.piece.Piece.{Piece}
 
 -- The piece begins where the one before it ends: its first steps, `restoring` of them, lead to a state with the same
 -- owners, waits, bases and protocols, and the same order of those who wait.

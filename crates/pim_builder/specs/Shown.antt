@@ -4,7 +4,7 @@ use Rattle.std.specs.Vec.{vec_len}
 use Rattle.pim_base.specs.Lists.{put}
 use Rattle.pim_facts.specs.declared.fact.Fact.{Fact}
 use Rattle.pim_replay.specs.Priorities.{priority_of}
-use Rattle.pim_replay.specs.declared.piece.Piece.{Piece}
+use Rattle.pim_builder.specs.declared.piece.Piece.{Piece}
 use Rattle.pim_replay.specs.Replays.{IsInOrder}
 use Rattle.pim_builder.specs.Frames.{AllJoinBy, KeepsOthers}
 use Rattle.pim_builder.specs.Pieces.{Point, GoesOn, EndWith, HasTimes, steps_of}

@@ -15,6 +15,7 @@ ghost use Rattle.pim_builder.specs.Shown.{AreShown, AreShownIn, Dated, Extends};
 use crate::fault::ImportFault;
 use crate::numbering::Numbering;
 use crate::participants::{Participant, Participants};
+use crate::piece::Piece;
 use crate::pieces::Pieces;
 use crate::showing::{has_base, has_ceiling, is_awaited, is_done_waiting, is_granted, is_released};
 use pim_base::{MutexNo, Prio, Protocol, TaskNo, nth};
@@ -22,7 +23,7 @@ use pim_course::{Sources, family_of};
 use pim_facts::lists::push;
 use pim_facts::{Fact, Family, What};
 use pim_manager::MakeFault;
-use pim_replay::{Observation, Piece, Priorities, Replay};
+use pim_replay::{Observation, Priorities, Replay};
 use std::alloc::{AllocError, Global};
 
 /// A thread or a mutex of the log.

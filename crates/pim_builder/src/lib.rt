@@ -1,7 +1,7 @@
 //! From facts to the pieces of a trace.
 //!
 //! A [`TraceBuilder`] makes the steps of each fact by a [replay](pim_replay::Replay), and cuts the
-//! trace into [`Piece`](pim_replay::Piece)s of at most 65,536 steps. After the steps of a fact it
+//! trace into [`Piece`]s of at most 65,536 steps. After the steps of a fact it
 //! looks up whether the replay shows it.
 //!
 //! ```text
@@ -45,15 +45,19 @@ mod fault;
 mod laws;
 mod numbering;
 mod participants;
+mod piece;
 mod pieces;
 mod sharing;
 mod showing;
 mod span;
+mod times;
 
 pub use builder::{Appearance, Context, Now, TraceBuilder, Who};
 pub use fault::{ImportFault, SharingFault};
 pub use laws::numbers_law;
 pub use numbering::{Numbering, Numbers};
 pub use participants::{Participant, Participants};
+pub use piece::Piece;
 pub use sharing::share;
 pub use span::Span;
+pub use times::Times;

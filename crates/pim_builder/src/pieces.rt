@@ -6,9 +6,11 @@ ghost use Rattle.pim_builder.specs.Pieces.{AllJoinAt, AreJoined, EndWith, GoesOn
 
 use crate::builder::Now;
 use crate::fault::ImportFault;
+use crate::piece::Piece;
+use crate::times::Times;
 use pim_base::MAX_STEPS;
 use pim_facts::lists::push;
-use pim_replay::{Observation, Piece, Replay, ReplayFault, Times, restored};
+use pim_replay::{Observation, Replay, ReplayFault, restored};
 use std::alloc::{AllocError, Global};
 use std::marker::Model;
 

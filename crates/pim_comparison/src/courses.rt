@@ -3,10 +3,9 @@
 use crate::mark::Mark;
 use crate::timing::Timing;
 use pim_base::{Op, Prio, Protocol, Reason, Step, TaskNo};
-use pim_builder::Who;
+use pim_builder::{Piece, Who};
 use pim_import::Imported;
 use pim_manager::{Manager, TrackedManager};
-use pim_replay::Piece;
 use std::alloc::{AllocError, Global};
 
 /// The priority of a thread from some step on.

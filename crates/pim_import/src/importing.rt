@@ -19,12 +19,12 @@ ghost use Rattle.pim_import.specs.Tallies.{total};
 use crate::critical_sections::CriticalSections;
 use crate::left_out::may_be_left_out;
 use crate::tally::Tally;
-use pim_builder::{Appearance, Context, ImportFault, Now, Numbering, TraceBuilder};
+use pim_builder::{Appearance, Context, ImportFault, Now, Numbering, Piece, TraceBuilder};
 use pim_course::{Course, NextOwners, Requests, Sources, Walk};
 use pim_facts::{Fact, Ids, IdsFault};
 use pim_findings::Findings;
 use pim_log::Log;
-use pim_replay::{Piece, Priorities};
+use pim_replay::Priorities;
 use pim_requests::{Wait, requests_of};
 use std::alloc::Global;
 

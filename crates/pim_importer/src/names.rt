@@ -1,11 +1,10 @@
 //! The table of names: which thread and which mutex has each number, and when each step happened.
 
-use pim_builder::Who;
+use pim_builder::{Piece, Who};
 use pim_course::family_of;
 use pim_import::Imported;
 use pim_labels::Labels;
 use pim_out::Out;
-use pim_replay::Piece;
 use std::alloc::Global;
 use std::io;
 use std::io::Write;

@@ -12,8 +12,7 @@
 //! replay.entries(); // these three
 //! ```
 //!
-//! A trace ends after 65,536 steps: [`restored`] begins the next [`Piece`] with the state at the
-//! end of the one before.
+//! A trace ends after 65,536 steps: [`restored`] begins the next one with the state at its end.
 //!
 //! [`Priorities`] has the priorities that the levels of a log become.
 //!
@@ -27,17 +26,13 @@ mod laws;
 mod observation;
 mod observing;
 mod order;
-mod piece;
 mod priorities;
 mod replay;
 mod restoring;
-mod times;
 
 pub use fault::ReplayFault;
 pub use laws::{beside_law, leaving_out_law, renamed_run_law, renaming_law, unawaited_law};
 pub use observation::Observation;
-pub use piece::Piece;
 pub use priorities::{Priorities, Scale};
 pub use replay::Replay;
 pub use restoring::restored;
-pub use times::Times;

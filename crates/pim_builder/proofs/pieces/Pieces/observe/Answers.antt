@@ -1,5 +1,5 @@
 use Rattle.std.proofs.Common.{◌∙◌, ◌-◌, ◌++◌, ap, length, refl, replicate, subst}
-use Rattle.pim_replay.specs.declared.piece.Piece.{Piece}
+use Rattle.pim_builder.specs.declared.piece.Piece.{Piece}
 use Rattle.pim_builder.specs.Pieces.{AllJoinAt}
 use Rattle.pim_builder.proofs.GoingOn.{steps_made}
 use Rattle.pim_builder.proofs.KeepingQueues.{observed_joins, observed_queues}

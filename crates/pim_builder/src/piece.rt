@@ -1,7 +1,7 @@
 //! A piece of a trace.
 
-use crate::replay::Replay;
 use crate::times::Times;
+use pim_replay::Replay;
 
 /// A piece of the trace of a log: a trace of its own, with at most 65,536 steps.
 #[derive(Drop)]
