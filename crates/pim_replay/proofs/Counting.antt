@@ -22,7 +22,7 @@ use Rattle.pim_base.specs.declared.steps.Waiter.{Waiter}
 use Rattle.pim_base.proofs.InOrder.{queue_law, waits_for}
 use Rattle.pim_base.proofs.Kept.{idle_from_tests, known_from_tests}
 use Rattle.pim_base.proofs.Places.{nth_within}
-use Rattle.pim_replay.specs.Replays.{waits_among, queued_after}
+use Rattle.pim_replay.specs.Queued.{queued_after, waits_among}
 
 -- ---- one wait more or less
 

@@ -17,10 +17,11 @@ use Rattle.pim_base.specs.declared.steps.Wait.{Wait}
 use Rattle.pim_base.specs.declared.steps.Waiter.{Waiter}
 use Rattle.pim_base.proofs.NoCycle.{unwrap_or-put_same}
 use Rattle.pim_base.proofs.Places.{nth-put_other}
-use Rattle.pim_replay.specs.Replays.{ReplayState, AllJoin, Continues, IsBack, IsGiven, IsInOrder, IsOutside, IsQueued}
-use Rattle.pim_replay.specs.Replays.{IsQueuedIfOwned, IsSame, KeepsEarlier, KeepsQueue, Observes, StayQueued}
+use Rattle.pim_replay.specs.Replays.{ReplayState, AllJoin, Continues, IsBack, IsGiven, IsInOrder, IsQueued}
+use Rattle.pim_replay.specs.Replays.{IsQueuedIfOwned, IsSame, Observes, StayQueued}
 use Rattle.pim_replay.specs.Replays.{StaysInOrder, awaited, cancel, lock, mutex_of, observed, program_of}
-use Rattle.pim_replay.specs.Replays.{program_wait, unlock, waits_among, with_step}
+use Rattle.pim_replay.specs.Replays.{program_wait, unlock, with_step}
+use Rattle.pim_replay.specs.Queued.{IsOutside, KeepsEarlier, KeepsQueue, waits_among}
 use Rattle.pim_replay.specs.declared.observation.Observation.{Observation}
 use Rattle.pim_replay.proofs.Ordering.{among_waits}
 use Rattle.pim_replay.proofs.Replaying.{asked_same, continues_refl, continues_trans, freed_owner, handed_owner, idle_asks, known_asks, other_put}

@@ -8,6 +8,10 @@ pub mod Comparing
 pub mod Ordering
 pub mod Counting
 pub mod Outside
+pub mod Returning
+pub mod HandingOn
+pub mod Allowing
+pub mod Known
 mod Unawaited
 mod Beside
 mod Leaving

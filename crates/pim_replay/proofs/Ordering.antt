@@ -17,12 +17,13 @@ use Rattle.pim_base.proofs.Effective.{known_from_owner}
 use Rattle.pim_base.proofs.InOrder.{queue_law, waits_for, waiter_of-waits}
 use Rattle.pim_base.proofs.Places.{nth_within}
 use Rattle.pim_manager.specs.Known.{of_mutex}
-use Rattle.pim_replay.specs.Replays.{ReplayState, IsBehindAll, KeepsOrder, KeepsPlace, StayInOrder, mutex_of, program_wait}
+use Rattle.pim_replay.specs.Replays.{ReplayState, KeepsOrder, KeepsPlace, StayInOrder, mutex_of, program_wait}
+use Rattle.pim_replay.specs.Queued.{IsBehindAll}
 use Rattle.pim_replay.proofs.Comparing.{nth-past}
 
 -- ---- what a task waits for in a queue
 
-waiting_known : (S : State) (t : ℕ) (w : Wait) → IsState S → wait_of S t ≡ Some w → IsTask S t
+pub waiting_known : (S : State) (t : ℕ) (w : Wait) → IsState S → wait_of S t ≡ Some w → IsTask S t
 waiting_known S t w lists waits = grind (arith, nth_within)
 
 is_unknown : (S : State) (m : ℕ) → IsMutex S m → unknown_mutex S m ≡ false
@@ -120,7 +121,7 @@ none_shown r S T m number o first second steady shown none u e =
     absurd (none-some (queue_of T m) (sym none ∙ awaited_shown T u m o all waits shown))
 
 -- a queue that is shown is that of m
-shown_queue :
+pub shown_queue :
     (T : State) (m : ℕ) (o : Option (List Waiter)) (ws : List Waiter)
     → o ≡ of_mutex T m (queue_of T m)
     → o ≡ Some ws

@@ -7,7 +7,8 @@ use Rattle.std.proofs.lemmas.List.Sums.{sum_by-cons}
 use Rattle.std.proofs.lemmas.Option.{none-some, same_Some, IfSome_then}
 use Rattle.pim_base.specs.State.{IsState, wait_of}
 use Rattle.pim_base.specs.declared.steps.Wait.{Wait}
-use Rattle.pim_replay.specs.Replays.{ReplayState, IsInOrder, IsOutside, awaited, mutex_of, program_wait, waits_among}
+use Rattle.pim_replay.specs.Replays.{ReplayState, IsInOrder, awaited, mutex_of, program_wait}
+use Rattle.pim_replay.specs.Queued.{IsOutside, waits_among}
 use Rattle.pim_replay.proofs.Comparing.{program_wait-past}
 use Rattle.pim_replay.proofs.Counting.{one}
 use Rattle.pim_replay.proofs.Ordering.{known_none, known_next}

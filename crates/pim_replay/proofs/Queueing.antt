@@ -17,7 +17,8 @@ use Rattle.pim_base.proofs.NoCycle.{unwrap_or-put_same}
 use Rattle.pim_base.proofs.Places.{nth-put_other}
 use Rattle.pim_replay.specs.Replays.{ReplayState, at_start, lock, with_step, without_wait, begun}
 use Rattle.pim_replay.specs.Replays.{mutex_of, program_wait, awaited}
-use Rattle.pim_replay.specs.Replays.{WaitTogether, IsEarlier, IsInOrder, StaysInOrder, IsBehindAll, KeepsOrder, StaysTheSame}
+use Rattle.pim_replay.specs.Replays.{WaitTogether, IsEarlier, IsInOrder, StaysInOrder, KeepsOrder, StaysTheSame}
+use Rattle.pim_replay.specs.Queued.{IsBehindAll}
 use Rattle.pim_replay.specs.Replays.{is_before}
 
 -- ---- a wait after one was put into the list of waits

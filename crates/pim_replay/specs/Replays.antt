@@ -1,7 +1,6 @@
 -- What is known of a recorded program while a manager does what was observed of it.
-use Rattle.std.specs.Prelude.{◌≡◌, ◌≢◌, ◌⊎◌, ◌+◌, ◌-◌, ◌<◌, ◌≤◌, ℕ, ◌==◌, nat_lt, ◌&&◌, ◌||◌, Bool, List, [], ◌∷◌, ◌++◌, length}
+use Rattle.std.specs.Prelude.{◌≡◌, ◌≢◌, ◌⊎◌, ◌+◌, ◌<◌, ℕ, ◌==◌, nat_lt, ◌&&◌, ◌||◌, Bool, List, [], ◌∷◌, ◌++◌, length}
 use Rattle.std.specs.Prelude.{replicate, Option, Some, None, IsSome, IfSome, unwrap_or, if◌then◌else◌}
-use Rattle.std.specs.Prelude.{is_some, sum_by}
 use Rattle.std.specs.Bool.{MatchBool}
 use Rattle.std.specs.Option.{option_map}
 use mathlib.Core.List.{IsPrefix}
@@ -88,22 +87,6 @@ begun r t m = record r { waits = put r.waits t (Some (record { mutex = m; ticket
 -- the same start, and further steps
 abbrev pub Continues : ReplayState → ReplayState → Type 0
 Continues r s = (s.start ≡ r.start) × IsPrefix r.entries s.entries
-
--- how many of these are waits
-abbrev pub waits_among : List (Option Wait) → ℕ
-waits_among = sum_by (λ wait. if is_some wait then 1 else 0)
-
--- how many tasks are in queues after this reply if n were before, to a step that releases one mutex at most
-abbrev pub queued_after : ℕ → Reply → ℕ
-queued_after n Reply.Granted = n
-queued_after n Reply.Queued = n + 1
-queued_after n Reply.Kept = n
-queued_after n Reply.Freed = n
-queued_after n (Reply.Handed t) = n - 1
-queued_after n (Reply.Released k) = n
-queued_after n Reply.Withdrawn = n - 1
-queued_after n Reply.Set = n
-queued_after n (Reply.Refused refusal) = n
 
 -- the mutex of a wait
 abbrev pub mutex_of : Option Wait → Option ℕ
@@ -194,26 +177,6 @@ pub record IsInOrder (r : ReplayState) : Type 0 where
 -- queues that are in this order stay in it
 abbrev pub StaysInOrder : ReplayState → ReplayState → Type 0
 StaysInOrder r s = IsInOrder r → IsInOrder s
-
--- whoever is in the queue of m stays in it
-abbrev pub KeepsQueue : ReplayState → ReplayState → ℕ → Type 0
-KeepsQueue r s m = (t : ℕ) → mutex_of (wait_of r.state t) ≡ Some m → mutex_of (wait_of s.state t) ≡ Some m
-
--- so is whoever is there and began to wait before a wait with this number
-abbrev pub KeepsEarlier : ReplayState → ReplayState → ℕ → ℕ → Type 0
-KeepsEarlier r s m number =
-    (t : ℕ) (wait : Wait) → program_wait r t ≡ Some wait → wait.ticket < number → mutex_of (wait_of r.state t) ≡ Some m →
-    mutex_of (wait_of s.state t) ≡ Some m
-
--- t waits for m outside of the queues, by a wait with this number or a later one
-abbrev pub IsOutside : ReplayState → ℕ → ℕ → ℕ → Wait → Type 0
-IsOutside r t m from wait =
-    (program_wait r t ≡ Some wait) × (wait.mutex ≡ m) × (from ≤ wait.ticket) × (wait_of r.state t ≡ None)
-
--- whoever is in the queue of m began to wait before a wait with this number
-abbrev pub IsBehindAll : ReplayState → ℕ → ℕ → Type 0
-IsBehindAll r m number =
-    (u : ℕ) → mutex_of (wait_of r.state u) ≡ Some m → IfSome (program_wait r u) (λ w. w.ticket < number)
 
 -- t is in the queue of m, unless m has no owner
 abbrev pub IsQueuedIfOwned : ReplayState → ℕ → ℕ → Type 0

@@ -1,19 +1,23 @@
 //! What each observation makes of a replay.
 
-ghost use Rattle.std.specs.Prelude.{◌≡◌, ◌≢◌, ◌⊎◌, None, Some, IsSome, IfSome, IfOk, IfErr, IsTrue, IsFalse};
-ghost use Rattle.std.specs.Prelude.{OnErr, ℕ, length, if◌then◌else◌};
+ghost use Rattle.std.specs.Prelude.{◌≡◌, ◌≢◌, ◌⊎◌, None, Some, IsSome, IfSome, IfOk, IfErr, IsErrOf, IsTrue, IsFalse};
+ghost use Rattle.std.specs.Prelude.{All, IfNone, IsSomeAnd, OnErr, ℕ, length, if◌then◌else◌};
+ghost use Rattle.pim_base.specs.Queues.{first_of, queue_of};
 ghost use Rattle.pim_base.specs.Runs.{IsRun};
 ghost use Rattle.pim_base.specs.State.{IsState, IsTask, owner_of, wait_of};
 ghost use Rattle.pim_base.specs.Steady.{IsSteady};
 ghost use Rattle.pim_base.specs.Steps.{reply_of};
 ghost use Rattle.pim_base.specs.declared.steps.Op.{Op};
 ghost use Rattle.pim_base.specs.declared.steps.Reply.TheVariants as reply;
-ghost use Rattle.pim_replay.specs.Replays.{AllJoin, Continues, KeepsEarlier, KeepsQueue, Observes, StaysInOrder};
-ghost use Rattle.pim_replay.specs.Replays.{StaysTheSame, IsBack, IsBehindAll};
+ghost use Rattle.pim_base.specs.declared.steps.Waiter.{Waiter};
+ghost use Rattle.pim_replay.specs.Possible.{IsPossible, MayAsk, MayHave, MayRelease, NoneIsRecursive};
+ghost use Rattle.pim_replay.specs.Queued.{IsBehindAll, NobodyElseIsFirst, IsNext, KeepsEarlier, KeepsQueue};
+ghost use Rattle.pim_replay.specs.Replays.{AllJoin, Continues, IsBack, Observes, StaysInOrder, StaysTheSame};
 ghost use Rattle.pim_replay.specs.Replays.{IsInOrder, IsQueued, IsQueuedIfItMay, IsSame, IsReplayFault, JoinsQueue, Stops};
 ghost use Rattle.pim_replay.specs.Replays.{IsOtherwise, IsNoWait, IsNoReturn, IsNotPassedOn};
 ghost use Rattle.pim_replay.specs.Replays.{IsNotReleased, IsNotSet, awaited, given, lock, unlock, cancel, mutex_of};
 ghost use Rattle.pim_replay.specs.Replays.{program_of, program_wait, with_step, waiting_for};
+ghost use Rattle.pim_replay.specs.declared.fault.ReplayFault.TheVariants as fault;
 ghost use Rattle.pim_replay.specs.declared.observation.Observation.TheVariants as observation;
 
 use crate::fault::ReplayFault;
@@ -37,12 +41,14 @@ impl Replay {
     /// # Errors
     ///
     /// Returns `Contradiction` if the model's reply to a step, which is the last one then, isn't how the program was
-    /// observed to go on. Returns `Memory` if out of memory, or of numbers for waits. The steps until then are made in
-    /// both cases.
+    /// observed to go on. It never does if queues are in order, no mutex is recursive and the manager can do what was
+    /// observed: what that means is `CanDo` in specs. Returns `Memory` if out of memory, or of numbers for waits. The steps
+    /// until then are made in both cases.
     pub fn observe(&mut self, observation: &Observation) -> Result<(), ReplayFault>
         ensures observed { IfOk result (λ _. Observes self.old observation.now self.new) }
         ensures queued { IfOk result (λ _. JoinsQueue observation.now self.new) }
         ensures fault { IfErr result (IsReplayFault self.old observation.now self.new) }
+        ensures possible { IsPossible self.old observation.now → ¬ IsErrOf result fault.Contradiction }
         ensures continues { Continues self.old self.new }
     {
         match observation {
@@ -60,8 +66,11 @@ impl Replay {
     fn grant(&mut self, task: TaskNo, mutex: MutexNo) -> Result<(), ReplayFault>
         ensures observed { IfOk result (λ _. Observes self.old (observation.Granted task mutex) self.new) }
         ensures fault { IfErr result (IsReplayFault self.old (observation.Granted task mutex) self.new) }
+        ensures possible { IsPossible self.old (observation.Granted task mutex) → ¬ IsErrOf result fault.Contradiction }
         ensures continues { Continues self.old self.new }
     {
+        // By its contract the proof knows that each mutex has an entry among the owners.
+        let _tasks = self.tasks();
         if self.is_queued(task) || self.owner(mutex) != Some(task) {
             self.require_lock(task, mutex)?;
         }
@@ -75,6 +84,7 @@ impl Replay {
         ensures observed { IfOk result (λ _. Observes self.old (observation.Waits task mutex) self.new) }
         ensures queued { IfOk result (λ _. IsQueuedIfItMay self.new task mutex) }
         ensures fault { IfErr result (IsReplayFault self.old (observation.Waits task mutex) self.new) }
+        ensures possible { IsPossible self.old (observation.Waits task mutex) → ¬ IsErrOf result fault.Contradiction }
         ensures continues { Continues self.old self.new }
     {
         if self.may_wait(task) {
@@ -113,6 +123,7 @@ impl Replay {
     fn give_up(&mut self, task: TaskNo) -> Result<(), ReplayFault>
         ensures observed { IfOk result (λ _. Observes self.old (observation.GaveUp task) self.new) }
         ensures fault { IfErr result (IsReplayFault self.old (observation.GaveUp task) self.new) }
+        ensures possible { IsPossible self.old (observation.GaveUp task) → ¬ IsErrOf result fault.Contradiction }
         ensures continues { Continues self.old self.new }
     {
         if self.queued(task).is_some() {
@@ -131,8 +142,11 @@ impl Replay {
     ) -> Result<(), ReplayFault>
         ensures observed { IfOk result (λ _. Observes self.old (observation.Released task mutex next) self.new) }
         ensures fault { IfErr result (IsReplayFault self.old (observation.Released task mutex next) self.new) }
+        ensures possible { IsPossible self.old (observation.Released task mutex next) → ¬ IsErrOf result fault.Contradiction }
         ensures continues { Continues self.old self.new }
     {
+        // By its contract the proof knows that the state is steady.
+        let _steady = self.manager().tasks();
         let left = self.step_out(task)?;
         self.hand_on(task, mutex, next)?;
         self.step_in(left)
@@ -148,10 +162,14 @@ impl Replay {
         ensures observed { IfOk result (λ _. Observes self.old (observation.Released task mutex next) self.new) }
         ensures fault { IfErr result (Stops self.old
             (IsNotReleased (program_of self.old) task mutex (waiting_for (program_of self.old) mutex next)) self.new) }
+        ensures possible { IsPossible self.old (observation.Released task mutex next) →
+            MayRelease self.old.state task mutex → ¬ IsErrOf result fault.Contradiction }
         ensures continues { Continues self.old self.new }
     {
         let next = self.waiting_for(mutex, next);
         self.pass_over(mutex, next)?;
+        // By its contract the proof knows that the state is steady.
+        let _steady = self.manager().tasks();
         match &next {
             Some(next) => self.give(task, mutex, *next),
             None => self.require_free(task, mutex),
@@ -164,7 +182,9 @@ impl Replay {
         ensures same { IfOk result (λ _. StaysTheSame self.old self.new) }
         ensures order { IfOk result (λ _. StaysInOrder self.old self.new) }
         ensures others { IfOk result (λ left. (m : ℕ) → left ≢ Some m → KeepsQueue self.old self.new m) }
+        ensures idle { IfOk result (λ _. IsInOrder self.old → wait_of self.new.state task ≡ None) }
         ensures left { IfOk result (λ left. (m : ℕ) → left ≡ Some m → awaited self.old task ≡ Some m) }
+        ensures queued { IfOk result (λ left. (m : ℕ) → left ≡ Some m → mutex_of (wait_of self.old.state task) ≡ Some m) }
         ensures continues { Continues self.old self.new }
     {
         let Some(own) = self.program_wait(task) else {
@@ -182,8 +202,12 @@ impl Replay {
         ensures same { IfOk result (λ _. StaysTheSame self.old self.new) }
         ensures order { IfOk result (λ _. StaysInOrder self.old self.new) }
         ensures others { IfOk result (λ left. (m : ℕ) → left ≢ Some m → KeepsQueue self.old self.new m) }
+        ensures idle { IfOk result (λ _. IsInOrder self.old →
+            IfSome (owner_of self.old.state mutex) (λ t. wait_of self.new.state t ≡ None)) }
         ensures left { IfOk result (λ left. (m : ℕ) → left ≡ Some m →
             (t : ℕ) × (owner_of self.old.state mutex ≡ Some t) × (awaited self.old t ≡ Some m)) }
+        ensures queued { IfOk result (λ left. (m : ℕ) → left ≡ Some m →
+            (t : ℕ) × (owner_of self.old.state mutex ≡ Some t) × (mutex_of (wait_of self.old.state t) ≡ Some m)) }
         ensures continues { Continues self.old self.new }
     {
         match self.owner(mutex) {
@@ -200,6 +224,8 @@ impl Replay {
         ensures others { IfOk result (λ _. (m : ℕ) → mutex ≢ Some m → KeepsQueue self.old self.new m) }
         ensures fault { IfErr result (Stops self.old
             (λ step reply. (m : ℕ) × (mutex ≡ Some m) × IsNoReturn (program_of self.old) m step reply) self.new) }
+        ensures possible { IsInOrder self.old → NoneIsRecursive self.old.state →
+            IfSome mutex (λ m. IsSome (owner_of self.old.state m)) → ¬ IsErrOf result fault.Contradiction }
         ensures continues { Continues self.old self.new }
     {
         match mutex {
@@ -216,8 +242,13 @@ impl Replay {
         ensures join { IfOk result (λ _. AllJoin self.old self.new mutex) }
         ensures others { IfOk result (λ _. (m : ℕ) → mutex ≢ m → KeepsQueue self.old self.new m) }
         ensures fault { IfErr result (Stops self.old (IsNotReleased (program_of self.old) task mutex (Some next)) self.new) }
+        ensures possible { IsInOrder self.old → NoneIsRecursive self.old.state →
+            MayRelease self.old.state task mutex → awaited self.old next ≡ Some mutex →
+            IsNext self.old.state mutex next → ¬ IsErrOf result fault.Contradiction }
         ensures continues { Continues self.old self.new }
     {
+        // By its contract the proof knows that each task has an entry among the waits.
+        let _tasks = self.tasks();
         if self.pass_on(task, mutex, next)? {
             self.require_lock(next, mutex)?;
         }
@@ -242,6 +273,10 @@ impl Replay {
         ensures same { IfOk result (λ _. StaysTheSame self.old self.new) }
         ensures order { IfOk result (λ _. StaysInOrder self.old self.new) }
         ensures others { IfOk result (λ _. (m : ℕ) → mutex ≢ m → KeepsQueue self.old self.new m) }
+        ensures first { IfOk result (λ _. NobodyElseIsFirst self.new.state mutex next) }
+        ensures stays { IfOk result (λ _. IfSome next (λ t. mutex_of (wait_of self.old.state t) ≡ Some mutex →
+            mutex_of (wait_of self.new.state t) ≡ Some mutex)) }
+        ensures idle { IfOk result (λ _. (t : ℕ) → wait_of self.old.state t ≡ None → wait_of self.new.state t ≡ None) }
         ensures continues { Continues self.old self.new }
     {
         if self.is_first(mutex, &next) {
@@ -254,7 +289,9 @@ impl Replay {
     }
 
     /// Returns whether this task is the first in the queue of the mutex.
-    fn is_first(&self, mutex: MutexNo, task: &Option<TaskNo>) -> bool {
+    fn is_first(&self, mutex: MutexNo, task: &Option<TaskNo>) -> bool
+        ensures { IsTrue result → IsSomeAnd (first_of self.now.state mutex) (λ first. task.now ≡ Some first.task) }
+    {
         match self.manager().waiters(mutex) {
             Some(waiters) => match waiters.first() {
                 Some(first) => Some(first.task) == *task,
@@ -266,8 +303,12 @@ impl Replay {
 
     /// Returns the first task but this one in the queue of the mutex.
     fn queued_but(&self, mutex: MutexNo, but: &Option<TaskNo>) -> Option<TaskNo>
-        ensures { IfSome result (λ task. mutex_of (wait_of self.now.state task) ≡ Some mutex) }
+        ensures queued { IfSome result (λ task. mutex_of (wait_of self.now.state task) ≡ Some mutex) }
+        ensures other { IfSome result (λ task. but.now ≢ Some task) }
+        ensures none { IfNone result (All (λ (w : Waiter). but.now ≡ Some w.task) (queue_of self.now.state mutex)) }
     {
+        // By its contract the proof knows that the state is steady.
+        let _steady = self.manager().tasks();
         for waiter in self.manager().waiters(mutex)? {
             if Some(waiter.task) != *but && self.queued(waiter.task) == Some(mutex) {
                 return Some(waiter.task);
@@ -284,8 +325,12 @@ impl Replay {
         ensures join { IfOk result (λ _. AllJoin self.old self.new mutex) }
         ensures others { IfOk result (λ _. (m : ℕ) → mutex ≢ m → KeepsQueue self.old self.new m) }
         ensures fault { IfErr result (Stops self.old (IsNoReturn (program_of self.old) mutex) self.new) }
+        ensures possible { IsInOrder self.old → NoneIsRecursive self.old.state → IsSome (owner_of self.old.state mutex) →
+            ¬ IsErrOf result fault.Contradiction }
         ensures continues { Continues self.old self.new }
     {
+        // By its contract the proof knows that each task has an entry among the waits.
+        let _tasks = self.tasks();
         let mut from = 0;
         while let Some((task, wait)) = self.first_outside(mutex, from) {
             self.join(task, mutex, wait.ticket)?;
@@ -308,6 +353,8 @@ impl Replay {
         ensures earlier { IfOk result (λ _. KeepsEarlier self.old self.new mutex number) }
         ensures others { IfOk result (λ _. (m : ℕ) → mutex ≢ m → KeepsQueue self.old self.new m) }
         ensures fault { IfErr result (Stops self.old (IsNoWait task mutex) self.new) }
+        ensures possible { IsInOrder self.old → NoneIsRecursive self.old.state → MayAsk self.old.state task mutex →
+            ¬ IsErrOf result fault.Contradiction }
         ensures continues { Continues self.old self.new }
     {
         self.withdraw_from(mutex, number)?;
@@ -334,6 +381,7 @@ impl Replay {
     fn set_base(&mut self, task: TaskNo, prio: Prio) -> Result<(), ReplayFault>
         ensures observed { IfOk result (λ _. Observes self.old (observation.Base task prio) self.new) }
         ensures fault { IfErr result (IsReplayFault self.old (observation.Base task prio) self.new) }
+        ensures possible { IsPossible self.old (observation.Base task prio) → ¬ IsErrOf result fault.Contradiction }
         ensures continues { Continues self.old self.new }
     {
         let actor = self.idle_task(task);
@@ -345,8 +393,11 @@ impl Replay {
     fn set_ceiling(&mut self, mutex: MutexNo, ceiling: Prio) -> Result<(), ReplayFault>
         ensures observed { IfOk result (λ _. Observes self.old (observation.Ceiling mutex ceiling) self.new) }
         ensures fault { IfErr result (IsReplayFault self.old (observation.Ceiling mutex ceiling) self.new) }
+        ensures possible { IsPossible self.old (observation.Ceiling mutex ceiling) → ¬ IsErrOf result fault.Contradiction }
         ensures continues { Continues self.old self.new }
     {
+        // By its contract the proof knows that the state is steady.
+        let _steady = self.manager().tasks();
         let left = self.step_out_owner(mutex)?;
         self.put_ceiling(mutex, ceiling)?;
         self.step_in(left)
@@ -356,6 +407,9 @@ impl Replay {
     fn put_ceiling(&mut self, mutex: MutexNo, ceiling: Prio) -> Result<(), ReplayFault>
         ensures observed { IfOk result (λ _. Observes self.old (observation.Ceiling mutex ceiling) self.new) }
         ensures fault { IfErr result (Stops self.old (IsNotSet (Op.SetCeiling mutex ceiling)) self.new) }
+        ensures possible { IsPossible self.old (observation.Ceiling mutex ceiling) →
+            IfSome (owner_of self.old.state mutex) (λ t. wait_of self.old.state t ≡ None) →
+            ¬ IsErrOf result fault.Contradiction }
         ensures continues { Continues self.old self.new }
     {
         let actor = match self.owner(mutex) {
@@ -374,12 +428,15 @@ impl Replay {
             IfSome (program_wait self.old task) (λ wait. IsBehindAll self.old mutex wait.ticket) →
             StaysInOrder self.old self.new) }
         ensures fault { IfErr result (Stops self.old (IsNoWait task mutex) self.new) }
+        ensures possible { NoneIsRecursive self.old.state → MayAsk self.old.state task mutex →
+            ¬ IsErrOf result fault.Contradiction }
         ensures continues { Continues self.old self.new }
     {
         match &self.ask(task, mutex)? {
             Reply::Queued => Ok(true),
             Reply::Refused(refusal) => match refusal {
                 Refusal::Deadlock | Refusal::Ceiling => Ok(false),
+                Refusal::Tickets => Err(ReplayFault::Memory),
                 _ => Err(ReplayFault::Contradiction),
             },
             _ => Err(ReplayFault::Contradiction),
@@ -404,6 +461,7 @@ impl Replay {
             (reply_of self.old.state (lock task mutex) ≡ reply.Granted)
             × (self.new ≡ with_step self.old (lock task mutex))) }
         ensures fault { IfErr result (Stops self.old (IsOtherwise (lock task mutex) reply.Granted) self.new) }
+        ensures possible { MayHave self.old.state task mutex → ¬ IsErrOf result fault.Contradiction }
         ensures continues { Continues self.old self.new }
     {
         self.require(lock(task, mutex), Reply::Granted)
@@ -415,6 +473,8 @@ impl Replay {
             (reply_of self.old.state (unlock task mutex) ≡ reply.Freed)
             × (self.new ≡ with_step self.old (unlock task mutex))) }
         ensures fault { IfErr result (Stops self.old (IsOtherwise (unlock task mutex) reply.Freed) self.new) }
+        ensures possible { NoneIsRecursive self.old.state → MayRelease self.old.state task mutex →
+            NobodyElseIsFirst self.old.state mutex None → ¬ IsErrOf result fault.Contradiction }
         ensures continues { Continues self.old self.new }
     {
         self.require(unlock(task, mutex), Reply::Freed)
@@ -428,6 +488,9 @@ impl Replay {
         ensures made { IfOk result (λ _. self.new ≡ with_step self.old (unlock task mutex)) }
         ensures steady { IsSteady self.old.state }
         ensures fault { IfErr result (Stops self.old (IsNotPassedOn task mutex next) self.new) }
+        ensures possible { NoneIsRecursive self.old.state → MayRelease self.old.state task mutex →
+            NobodyElseIsFirst self.old.state mutex (Some next) → ¬ IsErrOf result fault.Contradiction }
+        ensures first { IfOk result (λ free. IsTrue free → first_of self.old.state mutex ≡ None) }
         ensures continues { Continues self.old self.new }
     {
         let given = self.make(unlock(task, mutex))?;

@@ -3,7 +3,8 @@
 ghost use Rattle.std.specs.Prelude.{◌≡◌, ◌≢◌, ◌↔◌, ◌≤◌, IsTrue, Some, IfSome, IfNone, All, Contains};
 ghost use Rattle.pim_base.specs.State.{wait_of};
 ghost use Rattle.pim_base.specs.declared.steps.Waiter.{Waiter};
-ghost use Rattle.pim_replay.specs.Replays.{IsBehindAll, KeepsOrder, KeepsPlace, StayInOrder};
+ghost use Rattle.pim_replay.specs.Replays.{KeepsOrder, KeepsPlace, StayInOrder};
+ghost use Rattle.pim_replay.specs.Queued.{IsBehindAll};
 ghost use Rattle.pim_replay.specs.Replays.{is_before, mutex_of, program_wait};
 
 use crate::replay::Replay;

@@ -1,7 +1,7 @@
 //! The steps by which a manager does what a recorded program did.
 
 ghost use Rattle.std.specs.Prelude.{◌≡◌, ◌≢◌, ◌↔◌, ◌<◌, ◌≤◌, ℕ, length, Some, None, OnErr, IfOk, IfErr};
-ghost use Rattle.std.specs.Prelude.{IfSome, IfNone, IsSomeAnd, IsTrue, IsFalse};
+ghost use Rattle.std.specs.Prelude.{IfSome, IfNone, IsErrOf, IsSomeAnd, IsTrue, IsFalse};
 ghost use Rattle.pim_base.specs.Reports.{verdict_of};
 ghost use Rattle.pim_base.specs.Runs.{IsRun};
 ghost use Rattle.pim_base.specs.State.{IsState, IsTask, IsMutex, start, base_of, protocol_of, owner_of, wait_of};
@@ -12,9 +12,12 @@ ghost use Rattle.pim_base.specs.declared.limits.TheConstants.{MAX_TASKS};
 ghost use Rattle.pim_base.specs.declared.lines.Verdict.{Verdict};
 ghost use Rattle.pim_base.specs.declared.steps.Op.{Op};
 ghost use Rattle.pim_base.specs.declared.steps.Wait.{Wait};
+ghost use Rattle.pim_replay.specs.Possible.{IsIdle, OwnersAreKnown};
+ghost use Rattle.pim_replay.specs.Queued.{IsOutside, queued_after};
 ghost use Rattle.pim_replay.specs.Replays.{Continues, trace_of_replay, awaited, mutex_of, program_wait, at_start};
-ghost use Rattle.pim_replay.specs.Replays.{begun, queued_after, with_step, without_wait, IsInOrder, IsOtherwise, IsOutside};
+ghost use Rattle.pim_replay.specs.Replays.{begun, with_step, without_wait, IsInOrder, IsOtherwise};
 ghost use Rattle.pim_replay.specs.Replays.{StaysTheSame, Stops};
+ghost use Rattle.pim_replay.specs.declared.fault.ReplayFault.TheVariants as fault;
 
 use crate::fault::ReplayFault;
 use pim_base::{Entry, MutexNo, Prio, Protocol, Reply, Step, TaskNo, Wait, nth};
@@ -52,7 +55,8 @@ impl Model for Replay {
     ghost use Rattle.std.specs.Prelude.{◌≡◌, length};
     ghost use Rattle.pim_base.specs.Runs.{IsRun};
     ghost use Rattle.pim_base.specs.State.{start};
-    ghost use Rattle.pim_replay.specs.Replays.{ReplayState, waits_among};
+    ghost use Rattle.pim_replay.specs.Replays.{ReplayState};
+    ghost use Rattle.pim_replay.specs.Queued.{waits_among};
 
     ghost Value = { ReplayState };
 
@@ -211,8 +215,11 @@ impl Replay {
         self.manager.owner(mutex) == Some(None)
     }
 
-    /// Returns the task if it doesn't wait, else the first task that doesn't.
-    pub(crate) fn idle_task(&self, task: TaskNo) -> TaskNo {
+    /// Returns the task if it is in no queue, else the first that is in none. There is one, since no waits make a cycle.
+    pub(crate) fn idle_task(&self, task: TaskNo) -> TaskNo
+        ensures own { IsIdle self.now.state task → result ≡ task }
+        ensures idle { IsTask self.now.state 1 → IsIdle self.now.state result }
+    {
         if self.is_idle(task) {
             return task;
         }
@@ -303,6 +310,7 @@ impl Replay {
         ensures lists { IsState self.old.state }
         ensures steady { IsSteady self.old.state }
         ensures run { IsRun self.old.start self.old.entries self.old.state }
+        ensures known { OwnersAreKnown self.old.state }
     {
         // By its contract the proof knows that the state is steady.
         let _steady = self.manager.tasks();
@@ -328,6 +336,10 @@ impl Replay {
         requires one { step.op ≢ Op.ReleaseAll }
         ensures made { IfOk result (λ _. (reply_of self.old.state step ≡ reply) × (self.new ≡ with_step self.old step)) }
         ensures fault { IfErr result (Stops self.old (IsOtherwise step reply) self.new) }
+        ensures refused { IsErrOf result fault.Contradiction → reply_of self.old.state step ≢ reply }
+        ensures run { IsRun self.old.start self.old.entries self.old.state }
+        ensures steady { IsSteady self.old.state }
+        ensures known { OwnersAreKnown self.old.state }
         ensures continues { Continues self.old self.new }
     {
         let given = self.make(step)?;

@@ -1,6 +1,7 @@
 use Rattle.std.proofs.Common.{◌≡◌, ◌+◌, ◌≤◌, ℕ, Option, arith, rules, subst}
 use Rattle.pim_base.specs.declared.steps.Wait.{Wait}
-use Rattle.pim_replay.specs.Replays.{ReplayState, IsInOrder, waits_among}
+use Rattle.pim_replay.specs.Replays.{ReplayState, IsInOrder}
+use Rattle.pim_replay.specs.Queued.{waits_among}
 use Rattle.pim_replay.proofs.Outside.{first_of_all, idle_not_outside, nobody_outside, none_of_all, other_not_outside}
 use Rattle.pim_replay.proofs.Outside.{outside_later, outside_passed, outside_taken}
 use Rattle.pim_replay.proofs.replay.Replay.first_outside.Goals.{in-Some+then-eq+then-from-wait+then-is_before, in-Some+else-eq, in_default}

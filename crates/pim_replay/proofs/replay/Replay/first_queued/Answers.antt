@@ -7,7 +7,8 @@ use Rattle.std.proofs.lemmas.List.{take_all}
 use Rattle.std.proofs.lemmas.List.Elements.{All-more}
 use Rattle.pim_base.specs.declared.steps.Wait.{Wait}
 use Rattle.pim_base.specs.declared.steps.Waiter.{Waiter}
-use Rattle.pim_replay.specs.Replays.{IsBehindAll, program_wait}
+use Rattle.pim_replay.specs.Replays.{program_wait}
+use Rattle.pim_replay.specs.Queued.{IsBehindAll}
 use Rattle.pim_replay.proofs.Ordering.{shown_waits, shown_behind, none_shown}
 use Rattle.pim_replay.proofs.replay.Replay.first_queued.Goals.{then-from-number+then-is_lower, else-from-number}
 use Rattle.pim_replay.proofs.replay.Replay.first_queued.Goals.{else-from-number-via-then-from-number+else-is_lower}

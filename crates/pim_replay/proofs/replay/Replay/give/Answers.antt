@@ -3,8 +3,10 @@ use Rattle.std.proofs.lemmas.Result.{IfOk-weaker}
 use Rattle.pim_base.specs.Steps.{reply_of}
 use Rattle.pim_base.specs.declared.steps.Reply.{Reply}
 use Rattle.pim_replay.specs.Replays.{ReplayState, Program, Continues, IsNoReturn, IsNotPassedOn, IsNotReleased}
-use Rattle.pim_replay.specs.Replays.{IsOtherwise, IsSame, KeepsQueue, StaysInOrder}
+use Rattle.pim_replay.specs.Replays.{IsOtherwise, IsSame, StaysInOrder}
+use Rattle.pim_replay.specs.Queued.{KeepsQueue}
 use Rattle.pim_replay.specs.Replays.{Stops, given, lock, program_of, unlock, without_wait}
+use Rattle.pim_replay.proofs.HandingOn.{freed_for, given_owned, next_first, released_plain}
 use Rattle.pim_replay.proofs.Joining.{freed_wait, granted_wait, handed_wait, handed_waits, join_earlier, keeps_same}
 use Rattle.pim_replay.proofs.Joining.{keeps_trans, left_keeps}
 use Rattle.pim_replay.proofs.Replaying.{continues_ended, continues_refl, continues_trans, freed_granted_same}
@@ -139,3 +141,34 @@ returns-in_err-require_lock-clause-fault c =
     stops_after r q s (IsOtherwise (lock u m) Reply.Granted) (IsNotReleased p t m (Some u)) c.in_err-require_lock.field-0.0
     c.in_ok-pass_on.ensures.continues (λ step reply so. inr (inl so)) c.in_err-require_lock.ensures.fault in
     search (rules, c.from_residual-in_err-require_lock.ensures, ends)
+
+pub returns-clause-possible : goal.returns-clause-possible
+returns-clause-possible c = λ ok plain may waits next.
+    let r : ReplayState = c.args.self.now in
+    let s : ReplayState = c.end_wait.new.self in
+    let m = c.args.mutex in
+    let u = c.args.next in
+    let same : IsSame (given (program_of r) m (Some u)) (program_of s) = (here c).0 in
+    c.rejoin.ensures.possible ((here c).1 ok) (released_plain r s m (Some u) same plain)
+    (given_owned r.state s.state m c.args.task u c.in_ok-pass_on.ensures.steady.sound.lists may.owner same.owner)
+
+pub returns-in_err-pass_on-clause-possible : goal.returns-in_err-pass_on-clause-possible
+returns-in_err-pass_on-clause-possible c = λ ok plain may waits next e.
+    let no = c.in_err-pass_on.ensures.possible plain may
+    (next_first c.args.self.now.state c.args.mutex c.args.next next) in
+    search (rules, c.from_residual.ensures, no, e)
+
+pub returns-in_err-require_lock-clause-possible : goal.returns-in_err-require_lock-clause-possible
+returns-in_err-require_lock-clause-possible c = λ ok plain may waits next e.
+    let r : ReplayState = c.args.self.now in
+    let p : ReplayState = c.pass_on.new.self in
+    let t = c.args.task in
+    let m = c.args.mutex in
+    let u = c.args.next in
+    let passed = c.in_ok-pass_on.ensures in
+    let F : Bool → Type 0 = λ b. reply_of r.state (unlock t m) ≡ cond b Reply.Freed (Reply.Handed u) in
+    let yes : c.in_ok-pass_on.field-0 ≡ true = search (rules, c.if-branch.true) in
+    let no = c.in_err-require_lock.ensures.possible
+    (freed_for r p t m u passed.steady c.tasks-tasks.ensures.waits ok may.owner waits next (passed.first yes)
+    (subst F yes passed.reply) passed.made) in
+    search (rules, c.from_residual-in_err-require_lock.ensures, no, e)

@@ -2,17 +2,22 @@ use Rattle.std.proofs.Common.{◌≡◌, ◌≢◌, ℕ, None, Some, IsTrue, IsF
 use Rattle.pim_base.specs.State.{owner_of, wait_of}
 use Rattle.pim_base.specs.declared.steps.Reply.{Reply}
 use Rattle.pim_base.specs.declared.steps.Step.{Step}
+use Rattle.pim_replay.specs.Possible.{MayHave}
 use Rattle.pim_replay.specs.Replays.{ReplayState, AllJoin, Continues, Has, IsNoReturn, IsNotGranted, IsOtherwise}
-use Rattle.pim_replay.specs.Replays.{IsSame, KeepsQueue, Observes, StaysInOrder, Stops}
+use Rattle.pim_replay.specs.Replays.{IsSame, Observes, StaysInOrder, Stops}
+use Rattle.pim_replay.specs.Queued.{KeepsQueue}
 use Rattle.pim_replay.specs.Replays.{given, lock, program_of, without_wait}
 use Rattle.pim_replay.specs.declared.observation.Observation.TheVariants.{Granted}
 use Rattle.pim_replay.proofs.Joining.{granted_wait, join_earlier, keeps_same, keeps_trans, observes_given}
 use Rattle.pim_replay.proofs.Queueing.{in_order_ended}
 use Rattle.pim_replay.proofs.Replaying.{continues_ended, continues_refl, continues_trans, granted_same, idle_asks}
 use Rattle.pim_replay.proofs.Replaying.{owned_same, same_trans}
+use Rattle.pim_replay.proofs.HandingOn.{still_plain}
+use Rattle.pim_replay.proofs.Returning.{granted_owned}
 use Rattle.pim_replay.proofs.Staying.{order_granted}
 use Rattle.pim_replay.proofs.Stopping.{fails_after, ok_four, returns_same, stops_after}
-use Rattle.pim_replay.proofs.replay.Replay.grant.Goals.{After-rejoin, then-is_queued+in_ok-require_lock}
+use Rattle.pim_replay.proofs.replay.Replay.grant.Goals.{After-from_residual, After-rejoin}
+use Rattle.pim_replay.proofs.replay.Replay.grant.Goals.{then-is_queued+in_ok-require_lock}
 use Rattle.pim_replay.proofs.replay.Replay.grant.Goals.{then-is_queued-via-then-is_queued}
 use Rattle.pim_replay.proofs.replay.Replay.grant.Goals.{then-is_queued-via-else-is_queued+then-ne, else-is_queued+else-ne}
 use Rattle.pim_replay.proofs.replay.Replay.grant.Goals as goal
@@ -103,6 +108,15 @@ returns-clause-fault c =
     (λ step reply so. inr (returns_same (given (program_of r) m (Some t)) (program_of s) m (here c).0 step reply so))
     c.rejoin.ensures.fault
 
+-- a lock is made only if the task doesn't have the mutex yet
+yet : (c : After-from_residual) → ¬ Has (program_of c.args.self.now) c.args.task c.args.mutex
+yet c has = elim c.then-is_queued.branch as (λ _. ⊥) [
+  | then-is_queued-via-then-is_queued v ↦
+      let yes : IsTrue c.is_queued.result = search (rules, v.if-is_queued) in
+      c.is_queued.ensures.waits yes has.1
+  | then-is_queued-via-else-is_queued+then-ne v ↦ search (rules, v.if-ne, v.ne.ensures, v.owner.ensures, has.0)
+]
+
 pub returns-in_err-require_lock-clause-fault : goal.returns-in_err-require_lock-clause-fault
 returns-in_err-require_lock-clause-fault c =
     let r : ReplayState = c.args.self.now in
@@ -110,14 +124,27 @@ returns-in_err-require_lock-clause-fault c =
     let t = c.args.task in
     let m = c.args.mutex in
     let P : Step → Reply → Type 0 = IsNotGranted (program_of r) t m in
-    let yet : ¬ Has (program_of r) t m =
-    λ has. elim c.then-is_queued.branch as (λ _. ⊥) [
-      | then-is_queued-via-then-is_queued v ↦
-          let yes : IsTrue c.is_queued.result = search (rules, v.if-is_queued) in
-          c.is_queued.ensures.waits yes has.1
-      | then-is_queued-via-else-is_queued+then-ne v ↦ search (rules, v.if-ne, v.ne.ensures, v.owner.ensures, has.0)
-    ] in
     let ends : Stops r P s c.in_err-require_lock.field-0.0 =
     stops_after r r s (IsOtherwise (lock t m) Reply.Granted) P c.in_err-require_lock.field-0.0
-    (continues_refl r) (λ step reply so. inl (yet, so)) c.in_err-require_lock.ensures.fault in
+    (continues_refl r) (λ step reply so. inl (yet c, so)) c.in_err-require_lock.ensures.fault in
     search (rules, c.from_residual.ensures, ends)
+
+pub returns-in_err-require_lock-clause-possible : goal.returns-in_err-require_lock-clause-possible
+returns-in_err-require_lock-clause-possible c =
+    let r : ReplayState = c.args.self.now in
+    λ possible.
+    let may : MayHave r.state c.args.task c.args.mutex =
+    elim possible.can [ inl has ↦ absurd (yet c has) | inr so ↦ so ] in
+    let no = c.in_err-require_lock.ensures.possible may in
+    search (rules, c.from_residual.ensures, no)
+
+pub returns-clause-possible : goal.returns-clause-possible
+returns-clause-possible c =
+    let r : ReplayState = c.args.self.now in
+    let s : ReplayState = c.end_wait.new.self in
+    let t = c.args.task in
+    let m = c.args.mutex in
+    let at = here c in
+    λ possible.
+    c.rejoin.ensures.possible (at.1 possible.order) (still_plain r.state s.state at.0.protocol possible.plain)
+    (granted_owned r s t m c.tasks-tasks.ensures.lists possible.can at.0.owner)

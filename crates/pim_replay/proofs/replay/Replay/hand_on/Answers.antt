@@ -1,13 +1,18 @@
-use Rattle.std.proofs.Common.{◌≡◌, ◌≢◌, ◌∙◌, ℕ, Option, None, Some, subst, sym}
+use Rattle.std.proofs.Common.{◌≡◌, ◌≢◌, ◌∙◌, ℕ, Option, None, Some, IfSome, subst, sym}
 use Rattle.std.proofs.lemmas.Result.{IfOk-weaker}
+use Rattle.pim_base.specs.State.{wait_of}
+use Rattle.pim_base.specs.Steady.{IsSteady}
 use Rattle.pim_base.specs.declared.steps.Reply.{Reply}
+use Rattle.pim_replay.specs.Possible.{MayOwnNext}
 use Rattle.pim_replay.specs.Replays.{ReplayState, Program, AllJoin, IsNotReleased, IsOtherwise, IsSame}
-use Rattle.pim_replay.specs.Replays.{KeepsQueue, Observes, StaysInOrder, given, program_of}
+use Rattle.pim_replay.specs.Replays.{Observes, StaysInOrder, given, mutex_of, program_of}
+use Rattle.pim_replay.specs.Queued.{NobodyElseIsFirst, KeepsQueue}
 use Rattle.pim_replay.specs.Replays.{unlock, waiting_for}
 use Rattle.pim_replay.specs.declared.observation.Observation.{Observation}
 use Rattle.pim_replay.specs.declared.observation.Observation.TheVariants.{Released}
+use Rattle.pim_replay.proofs.HandingOn.{follows, same_release, still_plain, waiting_waits}
 use Rattle.pim_replay.proofs.Joining.{free_now, freed_wait, join_earlier, join_free, keeps_same, keeps_trans, observes_given}
-use Rattle.pim_replay.proofs.Replaying.{freed_same, same_given, same_trans}
+use Rattle.pim_replay.proofs.Replaying.{freed_same, same_awaits, same_given, same_trans}
 use Rattle.pim_replay.proofs.Staying.{order_freed}
 use Rattle.pim_replay.proofs.Stopping.{fails_after, ok_four, released_same}
 use Rattle.pim_replay.proofs.replay.Replay.hand_on.Goals as goal
@@ -89,3 +94,34 @@ returns-in-None-clause-fault c =
     (IsNotReleased p t m next) c.require_free.result
     c.in_ok-pass_over.ensures.continues
     (λ step reply so. subst (λ (o : Option ℕ). IsNotReleased p t m o step reply) is so) c.require_free.ensures.fault
+
+pub returns-in-Some-clause-possible : goal.returns-in-Some-clause-possible
+returns-in-Some-clause-possible c = λ possible may.
+    let r : ReplayState = c.args.self.now in
+    let left : ReplayState = c.pass_over.new.self in
+    let p : Program = program_of r in
+    let m = c.args.mutex in
+    let u = c.in-Some.next in
+    let next : Option ℕ = waiting_for p m c.args.next in
+    let is : next ≡ Some u = sym c.waiting_for-next.ensures ∙ c.in-Some.is in
+    let over = c.in_ok-pass_over.ensures in
+    let Stays : Option ℕ → Type 0 =
+    λ o. IfSome o (λ t. mutex_of (wait_of r.state t) ≡ Some m → mutex_of (wait_of left.state t) ≡ Some m) in
+    let stays : Stays (Some u) = subst Stays c.in-Some.is over.stays in
+    let follow : MayOwnNext r.state m u =
+    subst (λ (o : Option ℕ). IfSome o (MayOwnNext r.state m)) is possible.can.1 in
+    c.give.ensures.possible (over.order possible.order) (still_plain r.state left.state over.same.protocol possible.plain)
+    (same_release r left c.args.task m over.same (over.idle c.args.task may.idle) may.owner)
+    (same_awaits p (program_of left) u over.same ∙ waiting_waits p m u c.args.next is)
+    (follows r left u m (subst IsSteady c.manager.ensures c.tasks-steady.ensures.steady) over.same stays
+    (subst (NobodyElseIsFirst left.state m) c.in-Some.is over.first) follow)
+
+pub returns-in-None-clause-possible : goal.returns-in-None-clause-possible
+returns-in-None-clause-possible c = λ possible may.
+    let r : ReplayState = c.args.self.now in
+    let left : ReplayState = c.pass_over.new.self in
+    let m = c.args.mutex in
+    let over = c.in_ok-pass_over.ensures in
+    c.require_free.ensures.possible (still_plain r.state left.state over.same.protocol possible.plain)
+    (same_release r left c.args.task m over.same (over.idle c.args.task may.idle) may.owner)
+    (subst (NobodyElseIsFirst left.state m) c.in-None.is over.first)

@@ -1,8 +1,11 @@
 use Rattle.std.proofs.Common.{◌≡◌, ◌∙◌, Option, Some, IfSome, ap, rules, subst, sym}
 use Rattle.pim_base.specs.declared.steps.Wait.{Wait}
-use Rattle.pim_replay.specs.Replays.{ReplayState, IsBehindAll, IsNoWait, Stops, mutex_of, program_of, program_wait}
+use Rattle.pim_replay.specs.Replays.{ReplayState, IsNoWait, Stops, mutex_of, program_of, program_wait}
+use Rattle.pim_replay.specs.Queued.{IsBehindAll}
 use Rattle.pim_replay.proofs.Joining.{asked_back, asked_keeps}
 use Rattle.pim_replay.proofs.Replaying.{asked_same, same_trans}
+use Rattle.pim_replay.proofs.HandingOn.{still_plain}
+use Rattle.pim_replay.proofs.Returning.{may_still_ask}
 use Rattle.pim_replay.proofs.Stopping.{stops_after}
 use Rattle.pim_replay.proofs.replay.Replay.join.Goals as goal
 
@@ -51,3 +54,13 @@ returns-in_err-queue-clause-fault c =
     stops_after r c.withdraw_from.new.self s (IsNoWait t m) (IsNoWait t m) c.in_err-queue.field-0.0
     c.in_ok-withdraw_from.ensures.continues (λ step reply so. so) c.in_err-queue.ensures.fault in
     search (rules, c.from_residual-in_err-queue.ensures, ends)
+
+pub returns-in_err-queue-clause-possible : goal.returns-in_err-queue-clause-possible
+returns-in_err-queue-clause-possible c =
+    let r : ReplayState = c.args.self.now in
+    let now : ReplayState = c.withdraw_from.new.self in
+    let left = c.in_ok-withdraw_from.ensures in
+    λ ok plain may.
+    let no = c.in_err-queue.ensures.possible (still_plain r.state now.state left.same.protocol plain)
+    (may_still_ask r now c.args.task c.args.mutex c.args.number left.same left.order left.behind c.requires ok may) in
+    search (rules, c.from_residual-in_err-queue.ensures, no)

@@ -5,9 +5,13 @@ use Rattle.pim_base.specs.Steps.{reply_of}
 use Rattle.pim_base.specs.declared.steps.Entry.{Entry}
 use Rattle.pim_base.specs.declared.steps.Step.{Step}
 use Rattle.pim_manager.proofs.Listing.{bases_after}
-use Rattle.pim_replay.specs.Replays.{queued_after, waits_among}
+use Rattle.pim_replay.specs.Possible.{OwnersAreKnown}
+use Rattle.pim_replay.specs.Replays.{ReplayState}
+use Rattle.pim_replay.specs.Queued.{queued_after, waits_among}
 use Rattle.pim_replay.proofs.Counting.{counted_step, few_waits}
+use Rattle.pim_replay.proofs.Known.{owners_known}
 use Rattle.pim_replay.proofs.Replaying.{run_more}
+use Rattle.pim_replay.proofs.replay.Replay.make.Goals.{After-is_err}
 use Rattle.pim_replay.proofs.replay.Replay.make.Goals as goal
 
 pub queued_after-self-inside-requires : goal.queued_after-self-inside-requires
@@ -38,3 +42,16 @@ invariant_of-self-2 c =
           ∙ ap (λ k. queued_after k (reply_of S step)) c.self.invariant.3 ∙ sym counted
           ∙ sym (ap (λ (T : State). waits_among T.wait) c.step-reply.ensures.state),
     )
+
+-- so the owners are known before the step
+known : (c : After-is_err) → OwnersAreKnown c.args.self.now.state
+known c =
+    subst (λ (r : ReplayState). OwnersAreKnown r.state) c.self.view_is
+    (owners_known c.self.inside.bases.items c.self.inside.protocols.items 1 c.self.inside.entries.items
+    c.self.inside.manager c.self.invariant.0)
+
+pub returns-then-is_err-clause-known : goal.returns-then-is_err-clause-known
+returns-then-is_err-clause-known c = known (goal.at.returns-then-is_err-clause-known c).After-is_err
+
+pub returns-clause-known : goal.returns-clause-known
+returns-clause-known c = known (goal.at.returns-clause-known c).After-is_err

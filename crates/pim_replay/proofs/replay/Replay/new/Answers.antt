@@ -1,6 +1,7 @@
 use Rattle.std.proofs.Common.{◌≡◌, length, None, replicate, ap, ◌∙◌, sym, subst, rules}
 use Rattle.pim_base.specs.State.{State, start}
-use Rattle.pim_replay.specs.Replays.{IsInOrder, at_start, waits_among}
+use Rattle.pim_replay.specs.Replays.{IsInOrder, at_start}
+use Rattle.pim_replay.specs.Queued.{waits_among}
 use Rattle.pim_replay.proofs.Counting.{no_waits}
 use Rattle.pim_replay.proofs.Queueing.{in_order_start, none_waits}
 use Rattle.pim_replay.proofs.replay.Replay.new.Goals as goal

@@ -2,6 +2,8 @@ use Rattle.std.proofs.Common.{arith, rules}
 use Rattle.pim_replay.specs.Replays.{ReplayState, IsNoReturn, Stops, program_of}
 use Rattle.pim_replay.proofs.Joining.{all_back, back_next, keeps_trans}
 use Rattle.pim_replay.proofs.Replaying.{continues_refl, same_refl}
+use Rattle.pim_replay.proofs.HandingOn.{still_plain}
+use Rattle.pim_replay.proofs.Returning.{outside_asks}
 use Rattle.pim_replay.proofs.Staying.{Stays, stays_on}
 use Rattle.pim_replay.proofs.Stopping.{returns_after}
 use Rattle.pim_replay.proofs.replay.Replay.rejoin.Goals as goal
@@ -57,3 +59,14 @@ returns-clause-join c =
     let before = c.loop-task.invariant in
     all_back r c.loop-task.self c.args.mutex c.loop-task.from
     (record { same = before.same; order = before.order; continues = before.continues }) before.back c.in_default.ensures.none
+
+pub returns-in_err-join-clause-possible : goal.returns-in_err-join-clause-possible
+returns-in_err-join-clause-possible c =
+    let r : ReplayState = c.args.self.now in
+    let now : ReplayState = c.loop-task.self in
+    let before = c.loop-task.invariant in
+    λ ok plain owned.
+    let no = c.in_err-join.ensures.possible (before.order ok) (still_plain r.state now.state before.same.protocol plain)
+    (outside_asks r now _ c.args.mutex _ _ c.tasks-tasks.ensures.waits before.same c.in-Some.ensures.outside
+    owned) in
+    search (rules, c.from_residual.ensures, no)

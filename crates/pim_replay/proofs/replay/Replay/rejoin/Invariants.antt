@@ -1,5 +1,6 @@
 use Rattle.std.proofs.Common.{◌≢◌, ◌-◌, ◌^◌, ℕ}
-use Rattle.pim_replay.specs.Replays.{Continues, KeepsQueue, StaysInOrder, StaysTheSame}
+use Rattle.pim_replay.specs.Replays.{Continues, StaysInOrder, StaysTheSame}
+use Rattle.pim_replay.specs.Queued.{KeepsQueue}
 use Rattle.pim_replay.proofs.Joining.{BackBelow}
 use Rattle.pim_replay.proofs.replay.Replay.rejoin.Given as goal
 

@@ -1,11 +1,15 @@
 use Rattle.std.proofs.Common.{◌≡◌, ◌≢◌, ℕ, Option, Some, IfSome, inl, inr, rules, subst}
+use Rattle.pim_base.specs.Steady.{IsSteady}
 use Rattle.pim_base.specs.declared.steps.Reply.{Reply}
 use Rattle.pim_base.specs.declared.steps.Step.{Step}
 use Rattle.pim_replay.specs.Replays.{ReplayState, Program, AllJoin, Contradicts, IsNoReturn, IsNotReleased, IsSame}
-use Rattle.pim_replay.specs.Replays.{KeepsQueue, Observes, StaysInOrder, Stops, observed}
+use Rattle.pim_replay.specs.Replays.{Observes, StaysInOrder, Stops, observed}
+use Rattle.pim_replay.specs.Queued.{KeepsQueue}
 use Rattle.pim_replay.specs.Replays.{program_of, waiting_for}
 use Rattle.pim_replay.specs.declared.observation.Observation.{Observation}
 use Rattle.pim_replay.specs.declared.observation.Observation.TheVariants.{Released}
+use Rattle.pim_replay.proofs.HandingOn.{owner_not_there, possible_out, released_owned, released_plain, same_release}
+use Rattle.pim_replay.proofs.HandingOn.{still_plain}
 use Rattle.pim_replay.proofs.Joining.{observes_around}
 use Rattle.pim_replay.proofs.Replaying.{same_released, same_trans, same_waiting_for, continues_trans}
 use Rattle.pim_replay.proofs.Stopping.{fails_after, ok_four, released_same, returns_same, stops_after}
@@ -75,3 +79,31 @@ returns-in_err-hand_on-clause-fault c =
     (subst (λ (o : Option ℕ). IsNotReleased q t m o step reply) (same_waiting_for p q m next same) so)))
     c.in_err-hand_on.ensures.fault in
     search (rules, c.from_residual-in_err-hand_on.ensures, ends)
+
+pub returns-clause-possible : goal.returns-clause-possible
+returns-clause-possible c = λ possible.
+    let r : ReplayState = c.args.self.now in
+    let a : ReplayState = c.step_out.new.self in
+    let b : ReplayState = c.hand_on.new.self in
+    let m = c.args.mutex in
+    let next : Option ℕ = waiting_for (program_of a) m c.args.next in
+    let out = c.in_ok-left.ensures in
+    let did = c.in_ok-hand_on.ensures.observed in
+    let steady : IsSteady r.state = subst IsSteady c.manager.ensures c.tasks-steady.ensures.steady in
+    c.step_in.ensures.possible (did.order (out.order possible.order))
+    (released_plain a b m next did.same (still_plain r.state a.state out.same.protocol possible.plain))
+    (released_owned r a b c.args.task m c.in_ok-left.left next steady possible.can.0 out.queued out.same did.same)
+
+pub returns-in_err-hand_on-clause-possible : goal.returns-in_err-hand_on-clause-possible
+returns-in_err-hand_on-clause-possible c = λ possible e.
+    let r : ReplayState = c.args.self.now in
+    let a : ReplayState = c.step_out.new.self in
+    let t = c.args.task in
+    let m = c.args.mutex in
+    let out = c.in_ok-left.ensures in
+    let steady : IsSteady r.state = subst IsSteady c.manager.ensures c.tasks-steady.ensures.steady in
+    let keeps : KeepsQueue r a m =
+    out.others m (λ is. owner_not_there r.state t m steady possible.can.0 (out.queued m is)) in
+    let no = c.in_err-hand_on.ensures.possible (possible_out r a t m c.args.next out.same out.order keeps possible)
+    (same_release r a t m out.same (out.idle possible.order) possible.can.0) in
+    search (rules, c.from_residual-in_err-hand_on.ensures, no, e)

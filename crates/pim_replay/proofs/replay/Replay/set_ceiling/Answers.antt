@@ -1,13 +1,18 @@
-use Rattle.std.proofs.Common.{◌≡◌, ◌≢◌, ℕ, Some, IfSome, inl, inr, rules}
+use Rattle.std.proofs.Common.{◌≡◌, ◌≢◌, ℕ, List, Option, None, Some, IfSome, unwrap_or, inl, inr, ap, rules, subst, sym}
+use Rattle.pim_base.specs.Lists.{nth}
+use Rattle.pim_base.specs.State.{wait_of}
+use Rattle.pim_base.specs.Steady.{IsSteady}
 use Rattle.pim_base.specs.declared.steps.Op.{Op}
 use Rattle.pim_base.specs.declared.steps.Reply.{Reply}
 use Rattle.pim_base.specs.declared.steps.Step.{Step}
 use Rattle.pim_replay.specs.Replays.{ReplayState, Program, AllJoin, Contradicts, IsNoReturn, IsNotSet, IsSame}
-use Rattle.pim_replay.specs.Replays.{KeepsQueue, Observes, StaysInOrder, Stops, observed, program_of}
+use Rattle.pim_replay.specs.Replays.{Observes, StaysInOrder, Stops, observed, program_of}
+use Rattle.pim_replay.specs.Queued.{KeepsQueue}
 use Rattle.pim_replay.specs.declared.observation.Observation.{Observation}
 use Rattle.pim_replay.specs.declared.observation.Observation.TheVariants.{Ceiling}
 use Rattle.pim_replay.proofs.Joining.{observes_around}
 use Rattle.pim_replay.proofs.Replaying.{same_ceiling, same_trans, continues_trans}
+use Rattle.pim_replay.proofs.Returning.{ceiling_plain, left_owned, still_sets}
 use Rattle.pim_replay.proofs.Stopping.{fails_after, ok_four, returns_same, stops_after}
 use Rattle.pim_replay.proofs.replay.Replay.set_ceiling.Goals.{After-step_in}
 use Rattle.pim_replay.proofs.replay.Replay.set_ceiling.Goals as goal
@@ -73,3 +78,29 @@ returns-in_err-put_ceiling-clause-fault c =
     stops_after r left s (IsNotSet (Op.SetCeiling m level)) P c.in_err-put_ceiling.field-0.0
     c.in_ok-left.ensures.continues (λ step reply so. inl so) c.in_err-put_ceiling.ensures.fault in
     search (rules, c.from_residual-in_err-put_ceiling.ensures, ends)
+
+pub returns-in_err-put_ceiling-clause-possible : goal.returns-in_err-put_ceiling-clause-possible
+returns-in_err-put_ceiling-clause-possible c =
+    let r : ReplayState = c.args.self.now in
+    let left : ReplayState = c.step_out_owner.new.self in
+    let m = c.args.mutex in
+    let out = c.in_ok-left.ensures in
+    let P : Option ℕ → Type 0 = λ o. IfSome o (λ t. wait_of left.state t ≡ None) in
+    λ possible.
+    let owner = ap (λ (os : List (Option ℕ)). unwrap_or (nth os m) None) out.same.owner in
+    let no = c.in_err-put_ceiling.ensures.possible (still_sets r left m c.args.ceiling out.same out.order possible)
+    (subst P (sym owner) (out.idle possible.order)) in
+    search (rules, c.from_residual-in_err-put_ceiling.ensures, no)
+
+pub returns-clause-possible : goal.returns-clause-possible
+returns-clause-possible c =
+    let r : ReplayState = c.args.self.now in
+    let q : ReplayState = c.put_ceiling.new.self in
+    let out = c.in_ok-left.ensures in
+    let did = c.in_ok-put_ceiling.ensures.observed in
+    let steady : IsSteady r.state = subst IsSteady c.manager.ensures c.tasks-steady.ensures.steady in
+    λ possible.
+    c.step_in.ensures.possible (did.order (out.order possible.order))
+    (ceiling_plain r q c.args.mutex c.args.ceiling (here c).protocol possible.plain)
+    (left_owned r q c.in_ok-left.left steady (here c).owner
+    (λ n is. let at = out.queued n is in (at.0, at.2)))

@@ -2,12 +2,15 @@ use Rattle.std.proofs.Common.{◌≡◌, ◌∙◌, None, IsTrue, ap, inl, inr, 
 use Rattle.pim_base.specs.State.{IsMutex, IsTask, owner_of, wait_of}
 use Rattle.pim_base.specs.declared.steps.Reply.{Reply}
 use Rattle.pim_base.specs.declared.steps.Step.{Step}
+use Rattle.pim_replay.specs.Possible.{MayAsk, NoneIsRecursive}
 use Rattle.pim_replay.specs.Replays.{ReplayState, Continues, IsNoWait, MayTake, Observes, Stops, begun, mutex_of}
 use Rattle.pim_replay.specs.Replays.{program_of, with_next_wait}
 use Rattle.pim_replay.specs.declared.observation.Observation.TheVariants.{Waits}
 use Rattle.pim_replay.proofs.Joining.{asked_keeps, keeps_same, keeps_trans, stay_kept}
 use Rattle.pim_replay.proofs.Queueing.{begun_behind, in_order_begun}
 use Rattle.pim_replay.proofs.Replaying.{asked_same, begun_awaits, begun_same, continues_begun, continues_refl, same_trans}
+use Rattle.pim_replay.proofs.HandingOn.{still_plain}
+use Rattle.pim_replay.proofs.Returning.{begun_asks}
 use Rattle.pim_replay.proofs.Staying.{asked_idle, queued_if_it_may}
 use Rattle.pim_replay.proofs.Stopping.{may_take, stops_after}
 use Rattle.pim_replay.proofs.replay.Replay.wait.Goals.{then-may_wait+in_ok-begin_wait+else-is_free, else-may_wait}
@@ -105,3 +108,29 @@ pub returns-clause-queued : goal.returns-clause-queued
 returns-clause-queued c =
     let now : ReplayState = c.if-may_wait.self in
     queued_if_it_may now c.queue.new.self c.args.task c.args.mutex c.in_ok-queue.field-0 c.in_ok-queue.ensures.queued
+
+pub returns-in_err-queue-clause-possible : goal.returns-in_err-queue-clause-possible
+returns-in_err-queue-clause-possible c =
+    let r : ReplayState = c.args.self.now in
+    let now : ReplayState = c.if-may_wait.self in
+    let t = c.args.task in
+    let m = c.args.mutex in
+    λ possible.
+    let asks : NoneIsRecursive now.state × MayAsk now.state t m =
+    elim c.if-may_wait.branch as (λ _. NoneIsRecursive now.state × MayAsk now.state t m) [
+      | then-may_wait+in_ok-begin_wait+else-is_free w ↦
+          let begins : now ≡ begun r t m = w.self-is ∙ w.in_ok-begin_wait.ensures.begun in
+          let not_free : IsMutex r.state m × (owner_of r.state m ≡ None) → ⊥ =
+          λ free.
+          let F : ReplayState → Type 0 = λ x. IsMutex x.state m × (owner_of x.state m ≡ None) in
+          let yes = w.is_free.ensures.1 (subst F (sym w.in_ok-begin_wait.ensures.begun) free) in
+          search (rules, w.if-is_free, yes) in (
+            still_plain r.state now.state (ap (λ (x : ReplayState). x.state.protocol) begins) possible.plain,
+            begun_asks r now t m begins possible.can not_free,
+          )
+      | else-may_wait w ↦
+          let yes = c.may_wait.ensures.may possible.can.0.0 (inl possible.can.0.1) in
+          absurd (search (rules, w.if-may_wait, yes))
+    ] in
+    let no = c.in_err-queue.ensures.possible asks.0 asks.1 in
+    search (rules, c.from_residual-in_err-queue.ensures, no)

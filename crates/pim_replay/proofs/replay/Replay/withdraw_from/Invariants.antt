@@ -1,5 +1,6 @@
 use Rattle.std.proofs.Common.{◌≢◌, ℕ}
-use Rattle.pim_replay.specs.Replays.{Continues, KeepsEarlier, KeepsQueue, StaysInOrder, StaysTheSame, waits_among}
+use Rattle.pim_replay.specs.Replays.{Continues, StaysInOrder, StaysTheSame}
+use Rattle.pim_replay.specs.Queued.{KeepsEarlier, KeepsQueue, waits_among}
 use Rattle.pim_replay.proofs.replay.Replay.withdraw_from.Given as goal
 
 -- the program is the same, its queues stay in order, and only those left that began to wait later
