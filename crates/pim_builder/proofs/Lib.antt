@@ -6,3 +6,5 @@ pub mod GoingOn
 pub mod Extending
 pub mod Framing
 pub mod Entering
+pub mod Listing
+pub mod Giving

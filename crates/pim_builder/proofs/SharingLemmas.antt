@@ -5,7 +5,7 @@ use Rattle.std.proofs.lemmas.Bool.{cases_eq}
 use Rattle.std.proofs.lemmas.Grind.{get_or-set_at}
 use Rattle.std.proofs.lemmas.List.{length-replicate}
 use Rattle.pim_builder.specs.declared.span.Span.{Span}
-use Rattle.pim_builder.specs.Sharing.{span_at, AreShared, IsCrowded}
+use Rattle.pim_builder.specs.Sharing.{span_at, AreInTurn, AreShared, IsCrowded}
 
 -- the first spans have numbers, and each number in use has the latest of its spans
 pub record IsSharing (spans : List Span) (limit end used : ℕ) (latest numbers : List ℕ) : Type 0 where
@@ -17,6 +17,7 @@ pub record IsSharing (spans : List Span) (limit end used : ℕ) (latest numbers 
   pub newest : (k : ℕ) → k < end → k ≤ get_or latest (get_or numbers k 0) 0
   pub named : (n : ℕ) → n < used → (get_or latest n 0 < end) × (get_or numbers (get_or latest n 0) 0 ≡ n)
   pub apart : (j k : ℕ) → j < k → k < end → get_or numbers j 0 ≡ get_or numbers k 0 → (span_at spans j).last < (span_at spans k).first
+  pub turn : (k n : ℕ) → k < end → n < get_or numbers k 0 → (j : ℕ) × (j < k) × (get_or numbers j 0 ≡ n)
 
 -- a number may be given to a span: it is the first one that isn't in use, or its latest span has ended
 pub record IsFree (spans : List Span) (limit end used : ℕ) (latest : List ℕ) (m : ℕ) : Type 0 where
@@ -130,6 +131,25 @@ apart-next spans numbers end m inside apart ended j k lt h e =
           apart j k lt before (sym theirs ∙ e ∙ get_or-set_other numbers end k m 0 other)
     ]
 
+-- the lower numbers than the next one are those of earlier spans, as before
+turn-next : (latest numbers : List ℕ) (end m used : ℕ) → end < length numbers → m ≤ used →
+    ((n : ℕ) → n < used → (get_or latest n 0 < end) × (get_or numbers (get_or latest n 0) 0 ≡ n)) →
+    ((k n : ℕ) → k < end → n < get_or numbers k 0 → (j : ℕ) × (j < k) × (get_or numbers j 0 ≡ n)) →
+    (k n : ℕ) → k < end + 1 → n < get_or (set numbers end m) k 0 →
+    (j : ℕ) × (j < k) × (get_or (set numbers end m) j 0 ≡ n)
+turn-next latest numbers end m used inside near named turn k n h lower = elim (cases_eq k end) [
+  | inl same ↦
+      let mine : get_or (set numbers end m) k 0 ≡ m = get_or-set_at numbers end k m 0 same inside in
+      let earlier = named n (omega arith) in
+      let other : get_or latest n 0 ≢ end = omega (arith, earlier.0) in
+      (get_or latest n 0, omega (arith, earlier.0), get_or-set_other numbers end (get_or latest n 0) m 0 other ∙ earlier.1)
+  | inr before ↦
+      let mine : get_or (set numbers end m) k 0 ≡ get_or numbers k 0 = get_or-set_other numbers end k m 0 before in
+      let earlier = turn k n (omega arith) (omega arith) in
+      let other : earlier.0 ≢ end = omega (arith, earlier.1) in
+      (earlier.0, earlier.1, get_or-set_other numbers end earlier.0 m 0 other ∙ earlier.2)
+]
+
 -- no span has a number yet
 pub sharing-none : (spans : List Span) (limit n : ℕ) (latest numbers : List ℕ) →
     numbers ≡ replicate n 0 → n ≡ length spans → latest ≡ replicate limit 0 → IsSharing spans limit 0 0 latest numbers
@@ -142,6 +162,7 @@ sharing-none spans limit n latest numbers zeros all rooms = record {
   newest = λ k h. let none : ⊥ = omega arith in absurd none;
   named = λ n h. let none : ⊥ = omega arith in absurd none;
   apart = λ j k lt h same. let none : ⊥ = omega arith in absurd none;
+  turn = λ k n h lower. let none : ⊥ = omega arith in absurd none;
 }
 
 -- each span has a number
@@ -155,6 +176,13 @@ sharing-all spans limit end used latest numbers s all = record {
       omega (arith, s.few);
   apart = λ i j lt h same. let inside : j < end = omega arith in s.apart i j lt inside same;
 }
+
+-- each was given once the lower ones were
+pub sharing-turn : (spans : List Span) (limit end used : ℕ) (latest numbers : List ℕ) →
+    IsSharing spans limit end used latest numbers → end ≡ length spans → AreInTurn numbers
+sharing-turn spans limit end used latest numbers s all i n h lower =
+    let inside : i < end = omega (arith, s.each) in
+    s.turn i n inside lower
 
 -- one more span gets a number
 pub sharing-next : (spans : List Span) (limit end used more m : ℕ) (latest numbers : List ℕ) →
@@ -173,6 +201,7 @@ sharing-next spans limit end used more m latest numbers s f le own most grown =
       newest = newest-next latest numbers end m inside room s.newest;
       named = named-next latest numbers end m used more inside room grown s.named;
       apart = apart-next spans numbers end m inside s.apart (earlier-ended spans limit end used m latest numbers s f);
+      turn = turn-next latest numbers end m used inside f.near s.named s.turn;
     }
 
 -- where all numbers are in use and none is free, the latest spans are as many as there are numbers

@@ -5,3 +5,4 @@ pub mod Pieces
 pub mod Views
 pub mod Frames
 pub mod Shown
+pub mod Numbered

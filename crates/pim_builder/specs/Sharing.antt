@@ -14,6 +14,11 @@ pub record AreShared (spans : List Span) (limit : ℕ) (numbers : List ℕ) : Ty
   pub below : (i : ℕ) → i < length spans → slice_index numbers i < limit
   pub apart : (i j : ℕ) → i < j → j < length spans → slice_index numbers i ≡ slice_index numbers j → (span_at spans i).last < (span_at spans j).first
 
+-- a number is given only once the lower ones are: each of these is the number of an earlier span
+abbrev pub AreInTurn : List ℕ → Type 0
+AreInTurn numbers =
+    (i n : ℕ) → i < length numbers → n < slice_index numbers i → (j : ℕ) × (j < i) × (slice_index numbers j ≡ n)
+
 -- span i begins before the one in front of it
 pub record IsOutOfOrder (spans : List Span) (i : ℕ) : Type 0 where
   pub inside : i < length spans

@@ -1,6 +1,9 @@
 //! The numbers that threads and mutexes have in a trace.
-ghost use Rattle.std.specs.Prelude.{IfErr, ◌≡◌};
+ghost use Rattle.std.specs.Prelude.{IfErr, IfOk, OnOk, ℕ, length, vec_len, ◌≡◌};
+ghost use Rattle.pim_course.specs.Courses.{family_in};
 ghost use Rattle.pim_builder.specs.Faults.{NamesNone};
+ghost use Rattle.pim_builder.specs.Numbered.{GetNumbers, HaveNumbers, IsListed, KeepsNumbers, ListsAll};
+ghost use Rattle.pim_builder.specs.Sharing.{AreInTurn};
 ghost use Rattle.pim_builder.specs.Views.{number_in};
 
 use crate::fault::{ImportFault, SharingFault};
@@ -33,7 +36,7 @@ pub struct Numbers {
 
 impl Numbering {
     /// Returns the numbers of those who take part. Each has a number of its own if there are enough, else those whose
-    /// times don't meet share one: threads, and mutexes of the same protocol.
+    /// times don't meet share one: threads, and mutexes of the same protocol. Whoever takes part has one.
     ///
     /// # Errors
     ///
@@ -43,7 +46,9 @@ impl Numbering {
         sources: &Sources,
         participants: &Participants,
     ) -> Result<Numbering, ImportFault>
-        ensures { IfErr result NamesNone }
+        ensures threads { IfOk result (λ numbering. HaveNumbers participants.now.threads.items numbering.threads) }
+        ensures mutexes { IfOk result (λ numbering. HaveNumbers participants.now.mutexes.items numbering.mutexes) }
+        ensures fault { IfErr result NamesNone }
     {
         let mut threads = Numbers::new(alloc, participants.threads.len())?;
         let everyone = in_order(alloc, &participants.threads)?;
@@ -64,7 +69,9 @@ impl Numbering {
 
 impl Numbers {
     /// Returns that none has a number.
-    fn new(alloc: Global, count: usize) -> Result<Numbers, AllocError> {
+    fn new(alloc: Global, count: usize) -> Result<Numbers, AllocError>
+        ensures { IfOk result (λ numbers. vec_len numbers.of_each ≡ count) }
+    {
         Ok(Numbers {
             of_each: vec![in alloc; None; count]?,
             firsts: Vec::new(alloc),
@@ -95,7 +102,10 @@ impl Numbers {
         participants: &[Option<Participant>],
         limit: usize,
     ) -> Result<(), ImportFault>
-        ensures { IfErr result NamesNone }
+        ensures given { OnOk result (GetNumbers some.now self.new) }
+        ensures kept { OnOk result (KeepsNumbers self.old self.new) }
+        ensures room { vec_len self.new.of_each ≡ vec_len self.old.of_each }
+        ensures fault { IfErr result NamesNone }
     {
         let given = self.firsts.len();
         let room = limit.saturating_sub(given);
@@ -125,7 +135,8 @@ fn numbers_of(
     participants: &[Option<Participant>],
     room: usize,
 ) -> Result<Vec<usize>, ImportFault>
-    ensures { IfErr result NamesNone }
+    ensures turn { IfOk result (λ numbers. AreInTurn numbers.items) }
+    ensures fault { IfErr result NamesNone }
 {
     let mut spans = Vec::with_capacity(alloc, some.len())?;
     let is_shared = some.len() > room;
@@ -152,7 +163,9 @@ fn numbers_of(
 fn in_order(
     alloc: Global,
     participants: &[Option<Participant>],
-) -> Result<Vec<(u64, u32)>, AllocError> {
+) -> Result<Vec<(u64, u32)>, AllocError>
+    ensures { IfOk result (λ some. ListsAll participants.now some.items) }
+{
     let mut some = Vec::new(alloc);
     let count = participants.len().min(u32::MAX as usize) as u32;
     for one in 0..count {
@@ -170,7 +183,10 @@ fn of_family(
     sources: &Sources,
     all: &[(u64, u32)],
     family: Family,
-) -> Result<Vec<(u64, u32)>, AllocError> {
+) -> Result<Vec<(u64, u32)>, AllocError>
+    ensures { IfOk result (λ some. (one : ℕ) → family_in sources.now one ≡ family →
+        IsListed all.now one → IsListed some.items one) }
+{
     let mut some = Vec::new(alloc);
     for (first, one) in all {
         if family_of(sources, *one) == family {

@@ -1,5 +1,5 @@
 use Rattle.std.proofs.Common.{rules, arith, ◌<◌, ◌≤◌}
-use Rattle.pim_builder.proofs.SharingLemmas.{IsFree, sharing-none, sharing-next, sharing-all, crowded}
+use Rattle.pim_builder.proofs.SharingLemmas.{IsFree, sharing-none, sharing-next, sharing-all, sharing-turn, crowded}
 use Rattle.pim_builder.proofs.CrowdedLemmas.{crowded-cannot}
 use Rattle.pim_builder.proofs.sharing.share.Goals as goal
 
@@ -24,11 +24,14 @@ loop-span-preserved c =
     c.loop-span.latest.items c.loop-span.numbers.items c.loop-span.invariant free
     (omega arith) (omega arith) (omega (arith, c.loop-span.invariant.few)) (λ n h other. omega arith)
 
-pub returns-then-number-limit : goal.returns-then-number-limit
-returns-then-number-limit c =
+pub returns-then-number-limit-clause-numbers : goal.returns-then-number-limit-clause-numbers
+returns-then-number-limit-clause-numbers c =
     let some = crowded c.args.spans.now c.args.limit c.loop-span.span _ _ _ c.loop-span.invariant (omega arith) (omega arith)
     c.if-is_out_of_order.ensures (λ n h. rw c.deref.ensures.value at (c.free_number-number.ensures.lasting n (omega arith))) in
     (some, crowded-cannot _ _ _ some)
 
-pub returns : goal.returns
-returns c = sharing-all _ _ _ _ _ _ c.loop-span.invariant (omega arith)
+pub returns-clause-numbers : goal.returns-clause-numbers
+returns-clause-numbers c = sharing-all _ _ _ _ _ _ c.loop-span.invariant (omega arith)
+
+pub returns-clause-turn : goal.returns-clause-turn
+returns-clause-turn c = sharing-turn _ _ _ _ _ _ c.loop-span.invariant (omega arith)
