@@ -1,10 +1,11 @@
 -- What changes in a trace, at most, while a thread and a mutex take their numbers, and a fact is made.
 use Rattle.std.proofs.Common.{◌≡◌, ◌≢◌, ◌≤◌, ◌⊎◌, ◌∙◌, refl, sym, ap, subst, inl, inr, arith, ℕ, List, Option, Some, None}
-use Rattle.std.proofs.Common.{Bool, true, false, cond, unwrap_or, IfSome}
+use Rattle.std.proofs.Common.{Bool, true, false, cond, unwrap_or, length, IfSome}
 use Rattle.std.proofs.lemmas.Bool.{cases_eq, eq-eqb}
 use Rattle.std.proofs.lemmas.Option.{IfSome_then, none-some, same_Some}
 use Rattle.std.specs.Option.{option_and_then}
 use Rattle.pim_base.specs.Lists.{nth, put, holds}
+use Rattle.pim_base.specs.declared.steps.Protocol.{Protocol}
 use Rattle.pim_base.proofs.Places.{nth-put_other}
 use Rattle.pim_facts.specs.Shown.{mutex_of}
 use Rattle.pim_facts.specs.declared.fact.Fact.{Fact}
@@ -26,7 +27,7 @@ use Rattle.pim_builder.specs.declared.builder.Context.{Context}
 use Rattle.pim_builder.proofs.Framing.{by_observation, frees_on, frees_refl, only_on, only_weaker, same_only}
 
 -- who holds a number has it
-held_is :
+pub held_is :
     (holders : List (Option ℕ)) (one : ℕ) (o : Option ℕ) (number here : ℕ)
     → o ≡ Some number
     → held holders one o ≡ Some here
@@ -460,6 +461,8 @@ sets_only context fact a p q numbered other setting are same only = record {
   threads = λ j h. refl;
   mutexes = λ j h. refl;
   program = record {
+    tasks = only.tasks ∙ ap (λ (xs : List ℕ). length xs) same.base;
+    mutexes = only.mutexes ∙ ap (λ (xs : List Protocol). length xs) same.protocol;
     base = λ k h. only.base k (λ e. h (inl (are.base ∙ e))) ∙ ap (λ (xs : List ℕ). nth xs k) same.base;
     wait = λ k h. only.wait k (λ e. h (inl (are.wait ∙ e))) ∙ same.waits k;
     next = omega (arith, same.next, only.next);
@@ -489,6 +492,8 @@ keeps_from context fact a d p same keeps = record {
   threads = λ j h. keeps.threads j h;
   mutexes = λ j h. keeps.mutexes j h;
   program = record {
+    tasks = keeps.program.tasks ∙ ap (λ (xs : List ℕ). length xs) same.base;
+    mutexes = keeps.program.mutexes ∙ ap (λ (xs : List Protocol). length xs) same.protocol;
     base = λ k h. keeps.program.base k h ∙ ap (λ (xs : List ℕ). nth xs k) same.base;
     wait = λ k h. keeps.program.wait k (λ w. h (waits k w)) ∙ same.waits k;
     next = omega (arith, same.next, keeps.program.next);

@@ -4,6 +4,7 @@ use Rattle.std.proofs.Common.{Option, Some, None, Bool, true, false, cond, eqb, 
 use Rattle.std.proofs.lemmas.Bool.{cases_eq, cases_lt, eq-eqb, ne_eqb}
 use Rattle.std.proofs.lemmas.Option.{none-some, same_Some}
 use Rattle.pim_base.specs.Lists.{nth, put, holds}
+use Rattle.pim_base.specs.declared.steps.Protocol.{Protocol}
 use Rattle.pim_base.specs.declared.steps.Wait.{Wait}
 use Rattle.pim_base.proofs.NoCycle.{unwrap_or-put_same}
 use Rattle.pim_base.proofs.Places.{length-put, nth-put_same, nth-put_other, nth_within}
@@ -28,6 +29,8 @@ pub only_on :
     → ((n : ℕ) → ¬ protocols n → ¬ protocols' n)
     → ChangesOnly bases waits owners protocols p r
 only_on bases waits owners protocols bases' waits' owners' protocols' p q r a b base wait owner protocol = record {
+  tasks = b.tasks ∙ a.tasks;
+  mutexes = b.mutexes ∙ a.mutexes;
   base = λ k h. b.base k (base k h) ∙ a.base k h;
   wait = λ k h. let same : q.waits k ≡ p.waits k = a.wait k h in b.wait k (wait k h same) ∙ same;
   next = omega (arith, a.next, b.next);
@@ -44,6 +47,8 @@ pub only_weaker :
     → ((n : ℕ) → protocols n → protocols' n)
     → ChangesOnly bases' waits' owners' protocols' p q
 only_weaker bases waits owners protocols bases' waits' owners' protocols' p q a base wait owner protocol = record {
+  tasks = a.tasks;
+  mutexes = a.mutexes;
   base = λ k h. a.base k (λ x. h (base k x));
   wait = λ k h. a.wait k (λ x. h (wait k x));
   next = a.next;
@@ -57,6 +62,8 @@ pub same_only :
     → IsSame p q
     → ChangesOnly bases waits owners protocols p q
 same_only bases waits owners protocols p q same = record {
+  tasks = ap (λ (xs : List ℕ). length xs) same.base;
+  mutexes = ap (λ (xs : List Protocol). length xs) same.protocol;
   base = λ k h. ap (λ (xs : List ℕ). nth xs k) same.base;
   wait = λ k h. same.waits k;
   next = omega (arith, same.next);
@@ -82,6 +89,8 @@ given_only :
     (p : Program) (n : ℕ) (o : Option ℕ)
     → ChangesThose (record { base = None; wait = o; owner = Some n; ceiling = None }) p (given p n o)
 given_only p n None = record {
+  tasks = refl;
+  mutexes = refl;
   base = λ j h. refl;
   wait = λ j h. refl;
   next = omega arith;
@@ -89,6 +98,8 @@ given_only p n None = record {
   protocol = λ m h. refl;
 }
 given_only p n (Some k) = record {
+  tasks = refl;
+  mutexes = refl;
   base = λ j h. refl;
   wait = λ j h. other_wait p.waits k j None h;
   next = omega arith;
@@ -101,6 +112,8 @@ none_given :
     (p : Program) (n : ℕ) (o : Option ℕ)
     → ChangesThose (record { base = None; wait = o; owner = Some n; ceiling = None }) p (given p n None)
 none_given p n o = record {
+  tasks = refl;
+  mutexes = refl;
   base = λ j h. refl;
   wait = λ j h. refl;
   next = omega arith;
@@ -117,6 +130,8 @@ wait_only :
     → ((j : ℕ) → q.waits j ≡ (with_wait p k o).waits j)
     → ChangesThose (record { base = None; wait = Some k; owner = None; ceiling = None }) p q
 wait_only p q k o owner base protocol next waits = record {
+  tasks = ap (λ (xs : List ℕ). length xs) base;
+  mutexes = ap (λ (xs : List Protocol). length xs) protocol;
   base = λ j h. ap (λ (xs : List ℕ). nth xs j) base;
   wait = λ j h. waits j ∙ other_wait p.waits k j o h;
   next = next;
@@ -139,6 +154,8 @@ observed_only p (Released k n (Some u)) = go (holds (awaits p u) n)
     go true = given_only p n (Some u)
     go false = none_given p n (Some u)
 observed_only p (Base k level) = record {
+  tasks = length-put p.base k level;
+  mutexes = refl;
   base = λ j h. nth-put_other p.base k j level (λ is. h (ap Some is));
   wait = λ j h. refl;
   next = omega arith;
@@ -146,6 +163,8 @@ observed_only p (Base k level) = record {
   protocol = λ m h. refl;
 }
 observed_only p (Ceiling n level) = record {
+  tasks = refl;
+  mutexes = length-put p.protocol n _;
   base = λ j h. refl;
   wait = λ j h. refl;
   next = omega arith;
@@ -174,6 +193,8 @@ around_base p q r s o k base ceiling was first then last =
     let from : ChangesBy (Base k ceiling) p q = by_observation p q (Base k ceiling) first in
     let to : ChangesBy (Base k base) r s = by_observation r s (Base k base) last in
     record {
+      tasks = to.tasks ∙ (only.tasks ∙ from.tasks);
+      mutexes = to.mutexes ∙ (only.mutexes ∙ from.mutexes);
       base = λ j h. elim (cases_eq k j) [
         | inl is ↦
             subst (λ i. nth s.base i ≡ nth p.base i) is

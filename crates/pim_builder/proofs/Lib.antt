@@ -6,5 +6,7 @@ pub mod GoingOn
 pub mod Extending
 pub mod Framing
 pub mod Entering
+pub mod Doing
+pub mod Justifying
 pub mod Listing
 pub mod Giving

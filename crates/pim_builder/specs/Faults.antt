@@ -26,3 +26,11 @@ NamesOneOf end (TooManyThreads n) = (1 ≤ n) × (n < end)
 NamesOneOf end Crowded = Unit {0}
 NamesOneOf end TooManyPriorities = Unit {0}
 NamesOneOf end Memory = Unit {0}
+
+-- the fault is that a record contradicts those before it
+abbrev pub IsContradiction : ImportFault → Type 0
+IsContradiction (Contradiction n) = Unit {0}
+IsContradiction (TooManyThreads n) = ⊥
+IsContradiction Crowded = ⊥
+IsContradiction TooManyPriorities = ⊥
+IsContradiction Memory = ⊥

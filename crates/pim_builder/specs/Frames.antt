@@ -1,5 +1,5 @@
 -- What changes in a trace, at most, while it comes to show a fact.
-use Rattle.std.specs.Prelude.{◌≡◌, ◌≢◌, ◌⊎◌, ◌≤◌, ℕ, Option, None, Some, IfSome}
+use Rattle.std.specs.Prelude.{◌≡◌, ◌≢◌, ◌⊎◌, ◌≤◌, ℕ, Option, None, Some, IfSome, length}
 use Rattle.std.specs.Option.{option_and_then}
 use Rattle.pim_base.specs.Lists.{nth}
 use Rattle.pim_facts.specs.Shown.{mutex_of}
@@ -15,8 +15,11 @@ use Rattle.pim_builder.specs.Views.{View, holder_in, mutex_in, task_in}
 use Rattle.pim_builder.specs.declared.builder.Context.{Context}
 
 -- No more changes from one program to another: the bases and waits of these tasks, the owners and protocols of these
--- mutexes. Each other wait has the same number, and the number of the next wait doesn't fall.
+-- mutexes. There are as many tasks and mutexes. Each other wait has the same number, and the number of the next wait doesn't
+-- fall.
 pub record ChangesOnly (bases waits owners protocols : ℕ → Type 0) (p q : Program) : Type 0 where
+  pub tasks : length q.base ≡ length p.base
+  pub mutexes : length q.protocol ≡ length p.protocol
   pub base : (k : ℕ) → ¬ bases k → nth q.base k ≡ nth p.base k
   pub wait : (k : ℕ) → ¬ waits k → q.waits k ≡ p.waits k
   pub next : p.next ≤ q.next

@@ -5,4 +5,5 @@ pub mod Pieces
 pub mod Views
 pub mod Frames
 pub mod Shown
+pub mod Refusing
 pub mod Numbered

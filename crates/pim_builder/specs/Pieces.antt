@@ -1,6 +1,7 @@
 -- How the pieces of a trace go on from each other.
 use Rattle.std.specs.Prelude.{◌≡◌, ◌≤◌, ◌⊎◌, ℕ, ◌+◌, ◌-◌, ◌^◌, min, List, [], ◌∷◌, ◌++◌, length, replicate}
 use Rattle.std.specs.Prelude.{sum_by, flat_map, Contains, Some, IfSome}
+use Rattle.pim_base.specs.declared.limits.TheConstants.{MAX_STEPS}
 use Rattle.pim_base.specs.declared.steps.Entry.{Entry}
 use Rattle.pim_base.specs.declared.steps.Refusal.{Refusal}
 use Rattle.pim_base.specs.declared.steps.Reply.{Reply}
@@ -51,6 +52,10 @@ pub record IsIn (point : Point) (pieces : List Piece) : Type 0 where
 -- a trace comes from one point to another: they are in the same piece, or the piece of the first ends between
 abbrev pub Reaches : Point → Point → Type 0
 Reaches p q = ((q.before ≡ p.before) × IsContinued p.piece q.piece) ⊎ IsIn p q.before
+
+-- a piece has room for 1,024 steps more, as many as a fact may make
+abbrev pub HasRoom : Piece → Type 0
+HasRoom piece = length piece.replay.entries + 1024 ≤ MAX_STEPS
 
 -- there is a time for each step
 abbrev pub HasTimes : Piece → Type 0

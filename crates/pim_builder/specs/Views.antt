@@ -1,7 +1,7 @@
 -- What a trace has at a point: who has which number, and the program.
 use Rattle.std.specs.Prelude.{ℕ, List, Option, None, Some, if◌then◌else◌, slice_index_or, unwrap_or}
 use Rattle.pim_base.specs.Lists.{nth, holds}
-use Rattle.pim_replay.specs.Replays.{Program, program_of}
+use Rattle.pim_replay.specs.Replays.{Program, ReplayState, program_of}
 use Rattle.pim_builder.specs.Pieces.{Point}
 use Rattle.pim_builder.specs.declared.builder.Context.{Context}
 use Rattle.pim_builder.specs.declared.builder.TraceBuilder.{TraceBuilder}
@@ -44,6 +44,10 @@ view_of builder = record {
   mutexes = builder.mutexes.items;
   program = program_at builder.pieces;
 }
+
+-- the replay of the piece that is being made
+abbrev pub replay_now : TraceBuilder → ReplayState
+replay_now builder = builder.pieces.piece.replay
 
 -- the task that a thread is now, and the number that a mutex of the log has
 abbrev pub task_now : Context → TraceBuilder → ℕ → Option ℕ

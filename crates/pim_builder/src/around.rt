@@ -1,11 +1,14 @@
 //! The steps that go before and after those of a fact, so that the model allows it.
-ghost use Rattle.std.specs.Prelude.{◌≡◌, ◌≢◌, ℕ, IfErr, IfOk, IfSome, None, Some};
-ghost use Rattle.pim_base.specs.Lists.{nth};
-ghost use Rattle.pim_replay.specs.Replays.{IsGiven, awaits};
+ghost use Rattle.std.specs.Prelude.{◌≡◌, ◌≢◌, ℕ, false, IfErr, IfNone, IfOk, IfSome, None, Some};
+ghost use Rattle.pim_base.specs.Checks.{above_ceiling};
+ghost use Rattle.pim_base.specs.State.{wait_of};
+ghost use Rattle.pim_replay.specs.Replays.{IsGiven, IsInOrder, IsSame, awaited, awaits, observed};
 ghost use Rattle.pim_replay.specs.declared.observation.Observation.TheVariants as observation;
-ghost use Rattle.pim_builder.specs.Faults.{NamesOnly};
+ghost use Rattle.pim_builder.specs.Faults.{IsContradiction, NamesOnly};
 ghost use Rattle.pim_builder.specs.Frames.{ChangesBy, HasNothing, IsUnused, OnlyClears, OnlyFrees, OnlyLeaves};
 ghost use Rattle.pim_builder.specs.Pieces.{AllJoinAt, GoesOn};
+ghost use Rattle.pim_builder.specs.Refusing.{CanGrant, CanSetBase, CanSetCeiling, Grants, IsAbove};
+ghost use Rattle.pim_builder.specs.Showing.{HasBase, HasCeiling};
 ghost use Rattle.pim_builder.specs.Views.{program_at};
 
 use crate::builder::Now;
@@ -27,6 +30,10 @@ impl Pieces {
             ChangesBy (observation.Base task prio) (program_at self.old) (program_at self.new)) }
         ensures on { IfOk result (λ _. GoesOn now.now.time self.old self.new) }
         ensures fault { IfErr result (NamesOnly now.now.number) }
+        ensures possible { IsInOrder self.old.piece.replay → CanSetBase self.old.piece.replay task →
+            IfErr result (λ fault. ¬ IsContradiction fault) }
+        ensures set { CanSetBase self.old.piece.replay task →
+            IfOk result (λ _. HasBase self.new.piece.replay prio task) }
     {
         if self.replay().manager().base(task) == Some(prio) {
             return Ok(());
@@ -46,6 +53,10 @@ impl Pieces {
             ChangesBy (observation.Ceiling mutex ceiling) (program_at self.old) (program_at self.new)) }
         ensures on { IfOk result (λ _. GoesOn now.now.time self.old self.new) }
         ensures fault { IfErr result (NamesOnly now.now.number) }
+        ensures possible { IsInOrder self.old.piece.replay → CanSetCeiling self.old.piece.replay mutex →
+            IfErr result (λ fault. ¬ IsContradiction fault) }
+        ensures set { CanSetCeiling self.old.piece.replay mutex →
+            IfOk result (λ _. HasCeiling self.new.piece.replay ceiling mutex) }
     {
         if self.replay().manager().protocol(mutex) == Some(Protocol::Protect(ceiling)) {
             return Ok(());
@@ -63,11 +74,16 @@ impl Pieces {
         observation: &Observation,
         now: &Now,
     ) -> Result<(), ImportFault>
+        ensures observed { Grants observation.now task.now mutex → IfOk result (λ _.
+            IsSame (observed (program_at self.old) observation.now) (program_at self.new)) }
         ensures only { IfOk result (λ _.
             ChangesBy observation.now (program_at self.old) (program_at self.new)) }
         ensures given { IfOk result (λ _. (n : ℕ) → IsGiven observation.now n → AllJoinAt self.old self.new n) }
         ensures on { IfOk result (λ _. GoesOn now.now.time self.old self.new) }
         ensures fault { IfErr result (NamesOnly now.now.number) }
+        ensures possible { IsInOrder self.old.piece.replay → Grants observation.now task.now mutex →
+            CanGrant self.old.piece.replay observation.now →
+            IfErr result (λ fault. ¬ IsContradiction fault) }
     {
         let Some(above) = self.above_ceiling(task, mutex) else {
             return self.observe(observation, now);
@@ -75,6 +91,8 @@ impl Pieces {
         // The proof can't name the parts if the pattern above takes them.
         let (task, base, ceiling) = above;
         self.observe(&Observation::Base(task, ceiling), now)?;
+        // By its contract the proof knows that the state is steady.
+        let _steady = self.replay().manager().tasks();
         self.observe(observation, now)?;
         self.observe(&Observation::Base(task, base), now)
     }
@@ -82,7 +100,11 @@ impl Pieces {
     /// Returns a task that waits for a mutex outside of its queue, its priority, and the ceiling of the mutex, if that is
     /// lower.
     fn above_ceiling(&self, task: &Option<TaskNo>, mutex: MutexNo) -> Option<(TaskNo, Prio, Prio)>
-        ensures { IfSome result (λ above. nth (program_at self.now).base above.0 ≡ Some above.1) }
+        ensures above { IfSome result (λ above.
+            IsAbove self.now.piece.replay task.now mutex above.0 above.1 above.2) }
+        ensures none { IfNone result ((t : ℕ) → task.now ≡ Some t → wait_of self.now.piece.replay.state t ≡ None →
+            awaited self.now.piece.replay t ≡ Some mutex →
+            above_ceiling self.now.piece.replay.state t mutex ≡ false) }
     {
         let task = (*task)?;
         let manager = self.replay().manager();
@@ -103,6 +125,7 @@ impl Pieces {
         ensures frees { IfOk result (λ _. OnlyFrees (program_at self.old) (program_at self.new)) }
         ensures on { IfOk result (λ _. GoesOn now.now.time self.old self.new) }
         ensures fault { IfErr result (NamesOnly now.now.number) }
+        ensures possible { IsInOrder self.old.piece.replay → IfErr result (λ fault. ¬ IsContradiction fault) }
     {
         if self.replay().awaits(task).is_some() {
             self.observe(&Observation::GaveUp(task), now)?;
@@ -119,6 +142,7 @@ impl Pieces {
         ensures frees { IfOk result (λ _. OnlyFrees (program_at self.old) (program_at self.new)) }
         ensures on { IfOk result (λ _. GoesOn now.now.time self.old self.new) }
         ensures fault { IfErr result (NamesOnly now.now.number) }
+        ensures possible { IsInOrder self.old.piece.replay → IfErr result (λ fault. ¬ IsContradiction fault) }
     {
         // By its contract the proof knows how many owners the state lists.
         let _tasks = self.replay().tasks();
@@ -139,6 +163,7 @@ impl Pieces {
         ensures frees { IfOk result (λ _. OnlyFrees (program_at self.old) (program_at self.new)) }
         ensures on { IfOk result (λ _. GoesOn now.now.time self.old self.new) }
         ensures fault { IfErr result (NamesOnly now.now.number) }
+        ensures possible { IsInOrder self.old.piece.replay → IfErr result (λ fault. ¬ IsContradiction fault) }
     {
         self.end_waits(mutex, now)?;
         if let Some(owner) = self.replay().owner(mutex) {
@@ -154,6 +179,7 @@ impl Pieces {
         ensures frees { IfOk result (λ _. OnlyFrees (program_at self.old) (program_at self.new)) }
         ensures on { IfOk result (λ _. GoesOn now.now.time self.old self.new) }
         ensures fault { IfErr result (NamesOnly now.now.number) }
+        ensures possible { IsInOrder self.old.piece.replay → IfErr result (λ fault. ¬ IsContradiction fault) }
     {
         let count = self.replay().tasks();
         for place in 0..count {

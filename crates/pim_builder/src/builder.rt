@@ -1,15 +1,22 @@
 //! The trace as it is made: who has which number at a time, and the steps of facts.
-ghost use Rattle.std.specs.Prelude.{IfOk, IfErr, IsTrue, ◌≡◌, All, ℕ, List, [], ◌∷◌, Some, false};
+ghost use Rattle.std.specs.Prelude.{IfOk, IfErr, IsSome, IsTrue, ◌≡◌, ◌⊎◌, ◌↔◌, All, ℕ, List, [], ◌∷◌};
+ghost use Rattle.std.specs.Prelude.{None, Some, false};
 ghost use Rattle.std.specs.Option.{option_and_then};
 ghost use Rattle.pim_base.specs.Lists.{holds};
 ghost use Rattle.pim_base.specs.Lists as lists;
+ghost use Rattle.pim_base.specs.State.{IsTask, is_recursive};
 ghost use Rattle.pim_facts.specs.Shown.{mutex_of};
-ghost use Rattle.pim_builder.specs.Faults.{NamesNone, NamesOnly};
+ghost use Rattle.pim_builder.specs.Faults.{IsContradiction, NamesNone, NamesOnly};
+ghost use Rattle.pim_replay.specs.Possible.{NoneIsRecursive};
 ghost use Rattle.pim_replay.specs.Replays.{IsInOrder};
 ghost use Rattle.pim_builder.specs.Frames.{AllJoinBy, KeepsOthers, OnlyEntersMutex, OnlyEntersThread};
-ghost use Rattle.pim_builder.specs.Pieces.{AreJoined, EndWith, HasTimes};
-ghost use Rattle.pim_builder.specs.Showing.{IsSetting, Joins, SetsNone, Shows};
-ghost use Rattle.pim_builder.specs.Views.{holder_in, mutex_now, number_in, task_now, view_of};
+ghost use Rattle.pim_builder.specs.Pieces.{AreJoined, EndWith, HasRoom, HasTimes};
+ghost use Rattle.pim_builder.specs.Showing.{HasBase, HasCeiling, IsSetting, Joins, SetsNone, Shows};
+ghost use Rattle.pim_builder.specs.Refusing.{CannotAct, CannotShow, HasMutex, HasTask};
+ghost use Rattle.pim_builder.specs.Refusing.{first_base, first_ceiling, level_in};
+ghost use Rattle.pim_course.specs.Courses.{family_in};
+ghost use Rattle.pim_facts.specs.declared.family.Family.TheVariants as family;
+ghost use Rattle.pim_builder.specs.Views.{holder_in, mutex_now, number_in, replay_now, task_now, view_of};
 ghost use Rattle.pim_builder.specs.Shown.{AreShown, AreShownIn, Dated, Extends};
 
 use crate::fault::ImportFault;
@@ -93,17 +100,13 @@ impl TraceBuilder {
         let pieces = self.pieces.end()?;
         Ok((pieces, self.appearances))
     }
-}
 
-impl TraceBuilder {
     /// Makes the steps of a fact, which the record with this number shows, and returns whether it
     /// is in the trace: a new level or ceiling only is if the thread or the mutex takes part by
     /// then.
     ///
     /// If it is, the trace shows it, behind all that it showed before: who owns and who waits, the
-    /// priority or the ceiling is looked up after the steps, which takes a few lookups. Where the
-    /// replay differed from the fact, the import would end with `Contradiction`. It doesn't unless
-    /// the log contradicts itself, since a replay does what it observed.
+    /// priority or the ceiling is looked up after the steps, which takes a few lookups.
     ///
     /// Behind the steps nothing is other than before but those whom the fact is about, those whose numbers
     /// go to its thread or its mutex, what that task owned, and who waited for that mutex. A task that begins to wait is
@@ -115,7 +118,9 @@ impl TraceBuilder {
     ///
     /// # Errors
     ///
-    /// Returns `Contradiction` if the log contradicts itself there, and `Memory` if out of memory.
+    /// Returns `Contradiction` if the log contradicts itself there, and `Memory` if out of memory. Of a contradiction it is
+    /// proved that the trace can't show the fact, if queues are in order and the piece has room: `CannotShow` of
+    /// specs/Refusing.antt.
     pub fn build(&mut self, context: &Context, fact: &Fact, now: &Now) -> Result<bool, ImportFault>
         ensures unused { IfOk result (λ is_used. is_used ≡ false → IsSetting fact.now.what) }
         ensures shows { IfOk result (λ is_used. IsTrue is_used → Shows context.now self.new fact.now) }
@@ -127,6 +132,9 @@ impl TraceBuilder {
         ensures given { IfOk result (λ _. AllJoinBy self.old.pieces self.new.pieces
             (mutex_now context.now self.new) fact.now.what fact.now.thread) }
         ensures fault { IfErr result (NamesOnly now.now.number) }
+        ensures justified { IsInOrder (replay_now self.old) → HasRoom self.old.pieces.piece →
+            IfErr result (λ fault. IsContradiction fault →
+            CannotShow context.now now.now.time fact.now.what fact.now self.old) }
     {
         let is_used = self.make(context, fact, now)?;
         if is_used && !self.shows(context, fact) {
@@ -137,7 +145,7 @@ impl TraceBuilder {
 
     /// Returns whether the trace shows a fact.
     fn shows(&self, context: &Context, fact: &Fact) -> bool
-        ensures { IsTrue result → Shows context.now self.now fact.now }
+        ensures { IsTrue result ↔ Shows context.now self.now fact.now }
     {
         let task = self.task_of(context, fact.thread);
         let priorities = context.priorities;
@@ -170,6 +178,11 @@ impl TraceBuilder {
             (mutex_now context.now self.new) fact.now.what fact.now.thread) }
         ensures on { IfOk result (λ _. Extends context.now now.now.time self.old self.new) }
         ensures fault { IfErr result (NamesOnly now.now.number) }
+        ensures fits { HasRoom self.old.pieces.piece → IfOk result (λ is_used. IsTrue is_used →
+            CannotShow context.now now.now.time fact.now.what fact.now self.old ⊎ Shows context.now self.new fact.now) }
+        ensures justified { IsInOrder (replay_now self.old) → HasRoom self.old.pieces.piece →
+            IfErr result (λ fault. IsContradiction fault →
+            CannotShow context.now now.now.time fact.now.what fact.now self.old) }
     {
         self.pieces.cut(now)?;
         match fact.what {
@@ -217,9 +230,15 @@ impl TraceBuilder {
             (mutex_now context.now self.new) fact.now.what fact.now.thread) }
         ensures on { IfOk result (λ _. Extends context.now now.now.time self.old self.new) }
         ensures fault { IfErr result (NamesOnly now.now.number) }
+        ensures fits { IfOk result (λ _. HasTask context.now self.old fact.now.thread →
+            HasMutex context.now self.old mutex → Shows context.now self.new fact.now) }
+        ensures justified { IsInOrder (replay_now self.old) → IfErr result (λ fault. IsContradiction fault →
+            CannotAct context.now now.now.time fact.now mutex self.old) }
     {
         let task = self.enter_thread(context, fact.thread, now)?;
         let mutex = self.enter_mutex(context, mutex, now)?;
+        // By its contract the proof knows how many owners the state lists.
+        let _tasks = self.pieces.replay().tasks();
         match fact.what {
             What::Granted(_) => {
                 let grant = Observation::Granted(task, mutex);
@@ -275,10 +294,16 @@ impl TraceBuilder {
         now: &Now,
     ) -> Result<TaskNo, ImportFault>
         ensures entered { IfOk result (λ task. task_now context.now self.new thread ≡ Some task) }
+        ensures same { IfOk result (λ _. IsSome (task_now context.now self.old thread) → self.new ≡ self.old) }
         ensures only { IfOk result (λ _.
             OnlyEntersThread context.now thread (view_of self.old) (view_of self.new)) }
         ensures on { IfOk result (λ _. Extends context.now now.now.time self.old self.new) }
         ensures fault { IfErr result (NamesOnly now.now.number) }
+        ensures possible { IsInOrder (replay_now self.old) → HasTask context.now self.old thread →
+            IfErr result (λ fault. ¬ IsContradiction fault) }
+        ensures begins { HasTask context.now self.old thread → IfOk result (λ task.
+            task_now context.now self.old thread ≡ None →
+            HasBase (replay_now self.new) (first_base context.now thread) task) }
     {
         if let Some(task) = self.task_of(context, thread) {
             return Ok(task);
@@ -288,7 +313,7 @@ impl TraceBuilder {
         };
         self.pieces.leave(TaskNo(number), now)?;
         self.admit_thread(context, thread, number)?;
-        // It has its number now, unless there is no task with that, which isn't proved of the numbering.
+        // It has its number now, unless there is no task with that.
         let Some(task) = self.task_of(context, thread) else {
             return Err(ImportFault::Contradiction(now.number));
         };
@@ -306,10 +331,20 @@ impl TraceBuilder {
         now: &Now,
     ) -> Result<MutexNo, ImportFault>
         ensures entered { IfOk result (λ number. mutex_now context.now self.new mutex ≡ Some number) }
+        ensures same { IfOk result (λ _. IsSome (mutex_now context.now self.old mutex) → self.new ≡ self.old) }
         ensures only { IfOk result (λ _.
             OnlyEntersMutex context.now mutex (view_of self.old) (view_of self.new)) }
         ensures on { IfOk result (λ _. Extends context.now now.now.time self.old self.new) }
         ensures fault { IfErr result (NamesOnly now.now.number) }
+        ensures possible { IsInOrder (replay_now self.old) → IsTask (replay_now self.old).state 1 →
+            HasMutex context.now self.old mutex → IfErr result (λ fault. ¬ IsContradiction fault) }
+        ensures begins { IsTask (replay_now self.old).state 1 → HasMutex context.now self.old mutex →
+            IfOk result (λ number. mutex_now context.now self.old mutex ≡ None →
+            family_in context.now.sources.now mutex ≡ family.Protect →
+            HasCeiling (replay_now self.new) (first_ceiling context.now mutex) number) }
+        ensures protocols { IfOk result (λ _. ¬ (family_in context.now.sources.now mutex ≡ family.Protect) →
+            (n : ℕ) → lists.nth (replay_now self.new).state.protocol n
+            ≡ lists.nth (replay_now self.old).state.protocol n) }
     {
         if let Some(number) = self.mutex_of(context, mutex) {
             return Ok(number);
@@ -414,7 +449,9 @@ fn put(list: &mut Vec<Option<u32>>, number: u16, one: u32)
 }
 
 /// Returns the level that a thread or a ceiling has as it begins to take part. 0, the lowest, if it takes none.
-fn level_of(participants: &[Option<Participant>], one: u32) -> u8 {
+fn level_of(participants: &[Option<Participant>], one: u32) -> u8
+    ensures { result ≡ level_in participants.now one }
+{
     match participants.get(one as usize) {
         Some(Some(participant)) => participant.level,
         _ => 0,
@@ -432,7 +469,9 @@ fn bases_of(alloc: Global, context: &Context) -> Result<Vec<Prio>, AllocError> {
 }
 
 /// Returns the protocol of each mutex at the start.
-fn protocols_of(alloc: Global, context: &Context) -> Result<Vec<Protocol>, AllocError> {
+fn protocols_of(alloc: Global, context: &Context) -> Result<Vec<Protocol>, AllocError>
+    ensures { IfOk result (λ protocols. All (λ protocol. is_recursive protocol ≡ false) protocols.items) }
+{
     let mut protocols = Vec::new(alloc);
     for mutex in &context.numbering.mutexes.firsts {
         let level = level_of(&context.participants.mutexes, *mutex);
@@ -452,7 +491,9 @@ fn replay_of(
     bases: Vec<Prio>,
     protocols: Vec<Protocol>,
 ) -> Result<Replay, ImportFault>
+    requires plain { All (λ protocol. is_recursive protocol ≡ false) protocols.items }
     ensures begin { IfOk result (λ replay. replay.entries ≡ []) }
+    ensures plain { IfOk result (λ replay. NoneIsRecursive replay.start) }
     ensures order { IfOk result IsInOrder }
     ensures fault { IfErr result NamesNone }
 {

@@ -16,19 +16,16 @@
 //! steps, with those of `around.rt` that the model needs besides, `pieces.rt` keeps the pieces and
 //! cuts them, `showing.rt` looks up what the replay shows.
 //!
-//! It is proved that the trace shows the facts that it was built from, one behind the other, each of
-//! those who have its numbers by then, that each step has the time of the fact for which it was made,
-//! and that who appears for a fact does so before one of its steps, or behind them (specs/Shown.antt).
-//! From one fact to the next nothing changes but those whom the fact is about, those whose numbers it
-//! gives to others, and what these owned or who waited for these (specs/Frames.antt).
-//!
-//! It is proved that each further piece begins with the owners, waits, bases, protocols and order
-//! of waiters with which the one before it ends (specs/Pieces.antt).
+//! It is proved that the trace shows the facts that it was built from, one behind the other, at their
+//! times, and between which steps each of those appears who take part (specs/Shown.antt). From one
+//! fact to the next no others change (specs/Frames.antt). Each further piece begins as the one before
+//! it ends (specs/Pieces.antt). A fact that contradicts the log can't be shown, unless the piece is
+//! nearly full (specs/Refusing.antt).
 //!
 //! A trace has numbers for 256 tasks and 256 mutexes. [`share`] gives numbers to more than that,
 //! if few exist at one time: each thread or mutex has a [`Span`], from the first record that names
 //! it to the last, and two may have the same number if the span of one ends before that of the
-//! other begins. specs/Sharing.antt defines it.
+//! other begins. specs/Sharing.antt defines it; whoever takes part has a number (specs/Numbered.antt).
 //!
 //! ```text
 //! let spans = [Span { first: 1, last: 4 }, Span { first: 2, last: 9 }, Span { first: 5, last: 7 }];

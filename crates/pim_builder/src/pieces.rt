@@ -1,8 +1,11 @@
 //! The pieces of the trace as they are made.
-ghost use Rattle.std.specs.Prelude.{◌≡◌, ◌-◌, ◌++◌, ℕ, [], All, IfErr, IfOk, IsTrue, length, replicate};
-ghost use Rattle.pim_replay.specs.Replays.{IsGiven, IsSame, JoinsQueue, KeepsOrder, StaysTheSame, observed, program_of};
-ghost use Rattle.pim_builder.specs.Faults.{NamesOnly};
-ghost use Rattle.pim_builder.specs.Pieces.{AllJoinAt, AreJoined, EndWith, GoesOn, HasTimes, own_steps, steps_of};
+ghost use Rattle.std.specs.Prelude.{◌≡◌, ◌-◌, ◌++◌, ℕ, [], All, IfErr, IfOk, IsOk, IsTrue, length, replicate};
+ghost use Rattle.pim_replay.specs.Replays.{IsGiven, IsInOrder, IsSame, JoinsQueue, KeepsOrder, StaysTheSame};
+ghost use Rattle.pim_replay.specs.Replays.{observed, program_of};
+ghost use Rattle.pim_replay.specs.Possible.{CanDo, NoneIsRecursive};
+ghost use Rattle.pim_replay.specs.declared.fault.ReplayFault.TheVariants as replay;
+ghost use Rattle.pim_builder.specs.Faults.{IsContradiction, NamesOnly};
+ghost use Rattle.pim_builder.specs.Pieces.{AllJoinAt, AreJoined, EndWith, GoesOn, HasRoom, HasTimes, own_steps, steps_of};
 
 use crate::builder::Now;
 use crate::fault::ImportFault;
@@ -22,7 +25,7 @@ const ROOM: usize = 1024;
 ///
 /// In contracts it is the point that the trace has come to: the pieces that ended, and the piece that is being made. The
 /// type keeps that each further piece begins with the owners, waits, bases, protocols and order of waiters with which the
-/// one before it ended.
+/// one before it ended, and that no mutex is recursive.
 #[derive(Drop)]
 pub(crate) struct Pieces {
     pub(crate) alloc: Global,
@@ -37,18 +40,21 @@ pub(crate) struct Pieces {
 impl Model for Pieces {
     ghost use Rattle.std.specs.Prelude.{◌≡◌, ◌-◌, ◌^◌, [], ◌∷◌, ◌++◌, All, min, sum_by};
     ghost use Rattle.pim_builder.specs.Pieces.{AreJoined, HasTimes, Point, own_steps};
+    ghost use Rattle.pim_replay.specs.Possible.{NoneIsRecursive};
 
     ghost Value = { Point };
 
     ghost view = { λ p. record { before = p.ended.items; piece = p.piece } };
 
     ghost invariant = { λ p. AreJoined (p.ended.items ++ p.piece ∷ []) × All HasTimes p.ended.items
-        × (p.steps_before ≡ min (sum_by own_steps p.ended.items) (2 ^ 64 - 1)) };
+        × (p.steps_before ≡ min (sum_by own_steps p.ended.items) (2 ^ 64 - 1))
+        × NoneIsRecursive p.piece.replay.start };
 }
 
 impl Pieces {
     /// Returns the pieces of a trace that begins with this replay.
     pub(crate) fn new(alloc: Global, replay: Replay) -> Pieces
+        requires plain { NoneIsRecursive replay.start }
         ensures { result ≡ record { before = []; piece = record { replay = replay; times = []; restoring = 0 } } }
     {
         let piece = Piece {
@@ -91,7 +97,11 @@ impl Pieces {
         ensures given { IfOk result (λ _. (n : ℕ) → IsGiven observation.now n → AllJoinAt self.old self.new n) }
         ensures on { IfOk result (λ _. GoesOn now.now.time self.old self.new) }
         ensures fault { IfErr result (NamesOnly now.now.number) }
+        ensures possible { IsInOrder self.old.piece.replay → CanDo self.old.piece.replay observation.now →
+            IfErr result (λ fault. ¬ IsContradiction fault) }
     {
+        // By its contract the proof knows that the steps are a run, which makes no mutex recursive.
+        let _run = self.piece.replay.entries();
         match self.piece.replay.observe(observation) {
             Ok(()) => {}
             Err(fault) => return Err(at_record(fault, now)),
@@ -107,6 +117,7 @@ impl Pieces {
         ensures same { IfOk result (λ _. StaysTheSame self.old.piece.replay self.new.piece.replay) }
         ensures on { IfOk result (λ _. GoesOn now.now.time self.old self.new) }
         ensures fault { IfErr result (NamesOnly now.now.number) }
+        ensures room { HasRoom self.old.piece → (self.new ≡ self.old) × IsOk result }
     {
         if self.piece.replay.entries().len().saturating_add(ROOM) <= MAX_STEPS as usize {
             return Ok(());
@@ -139,6 +150,8 @@ impl Pieces {
         ensures ended { IfOk result (λ _. EndWith self.old self.new.before) }
         ensures begun { IfOk result (λ _. self.new.piece ≡ next) }
     {
+        // By their contracts the proof knows that the steps are runs, which make no mutex recursive.
+        let (_own, _next) = (self.piece.replay.entries(), next.replay.entries());
         if !has_times(&self.piece) || self.ended.reserve(1).is_err() {
             return Err(AllocError);
         }
@@ -193,7 +206,8 @@ fn push_times(times: &mut Times, count: usize, time: u64) -> Result<(), AllocErr
 
 /// Returns the fault of an import whose replay failed at a record.
 fn at_record(fault: ReplayFault, now: &Now) -> ImportFault
-    ensures { NamesOnly now.now.number result }
+    ensures record { NamesOnly now.now.number result }
+    ensures contradiction { IsContradiction result → fault ≡ replay.Contradiction }
 {
     match fault {
         ReplayFault::Contradiction => ImportFault::Contradiction(now.number),

@@ -1,11 +1,17 @@
-use Rattle.std.proofs.Common.{◌∙◌, refl, sym}
+use Rattle.std.proofs.Common.{◌∙◌, refl, subst, sym}
 use Rattle.std.proofs.lemmas.Result.{IfOk-weaker}
+use Rattle.pim_base.specs.State.{IsState}
 use Rattle.pim_facts.specs.declared.fact.What.TheVariants as what
+use Rattle.pim_replay.specs.Replays.{ReplayState}
 use Rattle.pim_replay.specs.declared.observation.Observation.TheVariants.{GaveUp}
+use Rattle.pim_builder.specs.Faults.{IsContradiction}
+use Rattle.pim_builder.specs.Refusing.{CannotAct}
 use Rattle.pim_builder.specs.Views.{mutex_now, program_at, view_of}
 use Rattle.pim_builder.proofs.Entering.{all_joined, gives_up_only, grants_only, releases_only, waits_joined, waits_only}
 use Rattle.pim_builder.proofs.Extending.{acted, joined_acted}
 use Rattle.pim_builder.proofs.Framing.{by_observation}
+use Rattle.pim_builder.proofs.Justifying.{act_refused, cannot_act, enter_possible, granted_shown}
+use Rattle.pim_builder.proofs.Justifying.{of_fault, released_shown}
 use Rattle.pim_builder.proofs.KeepingQueues.{none_given}
 use Rattle.pim_builder.proofs.builder.TraceBuilder.act.Goals as goal
 
@@ -129,3 +135,67 @@ returns-in-GaveUp-clause-given c = IfOk-weaker c.observe-in-GaveUp.result _ _
     (λ x on. none_given c.args.self.now.pieces c.observe-in-GaveUp.new.self
     (mutex_now c.args.context.now c.enter_mutex.new.self) c.args.fact.now.what (what.GaveUp c.in-GaveUp.field-0)
     c.args.fact.now.thread c.in-GaveUp.is refl) c.observe-in-GaveUp.ensures.on
+
+pub returns-in_err-mutex-clause-justified : goal.returns-in_err-mutex-clause-justified
+returns-in_err-mutex-clause-justified c order =
+    of_fault
+    (λ fault. IsContradiction fault →
+    CannotAct c.args.context.now c.args.now.now.time c.args.fact.now c.args.mutex c.args.self.now)
+    c.in_err-mutex.field-0.0 c.from_residual-in_err-mutex.result c.from_residual-in_err-mutex.ensures.1
+    (λ fault. cannot_act c.args.context.now c.args.now.now.time c.args.fact.now c.args.mutex c.args.self.now
+    (λ task mutex.
+    let has = enter_possible c.args.context.now c.args.fact.now.thread c.args.mutex c.args.self.now
+    c.enter_thread.new.self c.in_ok-task.ensures.only task mutex in
+    absurd (c.in_err-mutex.ensures.possible (c.in_ok-task.ensures.on.leads.point.order order) has.0 has.1 fault)))
+
+pub returns-in-Granted-clause-fits : goal.returns-in-Granted-clause-fits
+returns-in-Granted-clause-fits c = IfOk-weaker c.observe_grant.result _ _
+    (λ x same task mutex. granted_shown c.args.context.now c.args.now.now.time c.args.fact.now c.args.mutex c.in_ok-task.task
+    c.in_ok-mutex.mutex c.args.self.now c.enter_thread.new.self c.enter_mutex.new.self c.in_ok-task.ensures.only
+    c.in_ok-task.ensures.entered c.in_ok-mutex.ensures.only c.in_ok-mutex.ensures.entered
+    c.requires.its mutex (subst (λ (r : ReplayState). IsState r.state) c.replay.ensures c.tasks-tasks.ensures.lists)
+    c.observe_grant.new.self c.in-Granted.field-0 c.in-Granted.is same)
+    (c.observe_grant.ensures.observed (refl, refl))
+
+pub returns-in-Released-clause-fits : goal.returns-in-Released-clause-fits
+returns-in-Released-clause-fits c = IfOk-weaker c.observe_grant-in-Released.result _ _
+    (λ x same task mutex. released_shown c.args.context.now c.args.now.now.time c.args.fact.now c.args.mutex c.in_ok-task.task
+    c.in_ok-mutex.mutex c.args.self.now c.enter_thread.new.self c.enter_mutex.new.self c.in_ok-task.ensures.only
+    c.in_ok-task.ensures.entered c.in_ok-mutex.ensures.only c.in_ok-mutex.ensures.entered
+    c.requires.its mutex (subst (λ (r : ReplayState). IsState r.state) c.replay.ensures c.tasks-tasks.ensures.lists)
+    c.observe_grant-in-Released.new.self c.in-Released.mutex c.in-Released.next c.next_task-next.result
+    c.in-Released.is c.next_task-next.ensures same)
+    (c.observe_grant-in-Released.ensures.observed (refl, refl))
+
+pub returns-in-Granted-clause-justified : goal.returns-in-Granted-clause-justified
+returns-in-Granted-clause-justified c order = act_refused
+    c.args.context.now c.args.now.now.time c.args.fact.now c.args.mutex c.in_ok-task.task
+    c.in_ok-mutex.mutex c.args.self.now c.enter_thread.new.self c.enter_mutex.new.self c.in_ok-task.ensures.only
+    c.in_ok-task.ensures.entered c.in_ok-mutex.ensures.only c.in_ok-mutex.ensures.entered
+    c.observe_grant.result (what.Granted c.in-Granted.field-0) c.in-Granted.is
+    c.in_ok-task.ensures.same c.in_ok-mutex.ensures.same c.in_ok-task.ensures.begins c.in_ok-mutex.ensures.begins
+    c.in_ok-mutex.ensures.protocols c.in_ok-task.ensures.on c.in_ok-mutex.ensures.on
+    (c.observe_grant.ensures.possible
+    (c.in_ok-mutex.ensures.on.leads.point.order (c.in_ok-task.ensures.on.leads.point.order order)) (refl, refl))
+
+pub returns-in-Waits-clause-justified : goal.returns-in-Waits-clause-justified
+returns-in-Waits-clause-justified c order = act_refused
+    c.args.context.now c.args.now.now.time c.args.fact.now c.args.mutex c.in_ok-task.task
+    c.in_ok-mutex.mutex c.args.self.now c.enter_thread.new.self c.enter_mutex.new.self c.in_ok-task.ensures.only
+    c.in_ok-task.ensures.entered c.in_ok-mutex.ensures.only c.in_ok-mutex.ensures.entered
+    c.observe.result (what.Waits c.in-Waits.field-0) c.in-Waits.is
+    c.in_ok-task.ensures.same c.in_ok-mutex.ensures.same c.in_ok-task.ensures.begins c.in_ok-mutex.ensures.begins
+    c.in_ok-mutex.ensures.protocols c.in_ok-task.ensures.on c.in_ok-mutex.ensures.on
+    (c.observe.ensures.possible
+    (c.in_ok-mutex.ensures.on.leads.point.order (c.in_ok-task.ensures.on.leads.point.order order)))
+
+pub returns-in-Released-clause-justified : goal.returns-in-Released-clause-justified
+returns-in-Released-clause-justified c order = act_refused
+    c.args.context.now c.args.now.now.time c.args.fact.now c.args.mutex c.in_ok-task.task
+    c.in_ok-mutex.mutex c.args.self.now c.enter_thread.new.self c.enter_mutex.new.self c.in_ok-task.ensures.only
+    c.in_ok-task.ensures.entered c.in_ok-mutex.ensures.only c.in_ok-mutex.ensures.entered
+    c.observe_grant-in-Released.result (what.Released c.in-Released.mutex c.in-Released.next) c.in-Released.is
+    c.in_ok-task.ensures.same c.in_ok-mutex.ensures.same c.in_ok-task.ensures.begins c.in_ok-mutex.ensures.begins
+    c.in_ok-mutex.ensures.protocols c.in_ok-task.ensures.on c.in_ok-mutex.ensures.on
+    (c.observe_grant-in-Released.ensures.possible
+    (c.in_ok-mutex.ensures.on.leads.point.order (c.in_ok-task.ensures.on.leads.point.order order)) (refl, refl))

@@ -1,9 +1,10 @@
-use Rattle.std.proofs.Common.{sym, ap, subst, ℕ, Some, None}
+use Rattle.std.proofs.Common.{rules, ◌≡◌, ◌∙◌, sym, ap, subst, ℕ, Some, None, length}
 use Rattle.pim_builder.specs.Frames.{ChangesThose}
 use Rattle.pim_builder.specs.Views.{View, program_at, view_of}
 use Rattle.pim_builder.specs.declared.builder.TraceBuilder.{TraceBuilder}
 use Rattle.pim_builder.proofs.Entering.{enters_thread}
 use Rattle.pim_builder.proofs.Extending.{extends_steps, extends_trans}
+use Rattle.pim_builder.proofs.Justifying.{task_known}
 use Rattle.pim_builder.proofs.builder.TraceBuilder.enter_thread.Goals as goal
 
 pub returns-clause-on : goal.returns-clause-on
@@ -31,3 +32,15 @@ returns-clause-only c =
     (λ p. ChangesThose (record { base = Some c.in-Some-task_of.task; wait = None; owner = None; ceiling = None }) p
     (program_at c.begin_with_base.new.self))
     (ap (λ (v : View). v.program) taken) c.in_ok-begin_with_base.ensures.only)
+
+pub returns-in_err-begin_with_base-clause-possible : goal.returns-in_err-begin_with_base-clause-possible
+returns-in_err-begin_with_base-clause-possible c order has =
+    let taken = c.in_ok-admit_thread.ensures.taken in
+    let tasks : length (program_at c.admit_thread.new.self.pieces).base ≡ length (program_at c.args.self.now.pieces).base =
+    ap (λ (v : View). length v.program.base) taken ∙ c.in_ok-leave.ensures.only.tasks in
+    let can =
+    c.in_err-begin_with_base.ensures.possible
+    ((c.in_ok-admit_thread.ensures.on c.args.now.now.time).leads.point.order (c.in_ok-leave.ensures.on.order order))
+    (task_known c.args.context.now c.args.thread c.in-Some-task_of.task c.args.self.now c.admit_thread.new.self has
+    (sym c.in-Some-task_of.ensures) tasks) in
+    search (rules, can)

@@ -1,10 +1,15 @@
-use Rattle.std.proofs.Common.{◌∙◌, None, Some, refl, sym}
+use Rattle.std.proofs.Common.{rules, ◌∙◌, None, Some, refl, subst, sym}
 use Rattle.pim_facts.specs.declared.fact.What.TheVariants as what
 use Rattle.pim_replay.specs.declared.observation.Observation.TheVariants.{Base, Ceiling}
+use Rattle.pim_builder.specs.Faults.{IsContradiction}
+use Rattle.pim_builder.specs.Pieces.{Point}
+use Rattle.pim_builder.specs.Refusing.{CannotAct, CannotShow, CanSetBase, CanSetCeiling}
 use Rattle.pim_builder.specs.Views.{mutex_now, program_at, view_of}
 use Rattle.pim_builder.proofs.Entering.{ceiling_only, keeps_from, level_only, none_changed}
 use Rattle.pim_builder.proofs.Extending.{cut_and_on, cut_and_extended, extends_steps}
 use Rattle.pim_builder.proofs.Framing.{by_observation}
+use Rattle.pim_builder.proofs.Justifying.{acted_shown, cannot_show, ceiling_refused, ceiling_shown}
+use Rattle.pim_builder.proofs.Justifying.{level_refused, level_shown, of_fault}
 use Rattle.pim_builder.proofs.KeepingQueues.{all_join_by_since, none_given}
 use Rattle.pim_builder.proofs.builder.TraceBuilder.make.Goals as goal
 
@@ -39,6 +44,10 @@ returns-in_ok-act-in-Granted c = record {
   on = cut_and_extended c.args.context.now c.args.now.now.time c.args.self.now c.cut.new.self c.act.new.self
       c.in_ok-cut.ensures.on c.in_ok-act-in-Granted.ensures.on;
   fault = tt;
+  fits = λ room used. acted_shown c.args.context.now c.args.now.now.time c.args.fact.now c.in-Granted.mutex c.args.self.now
+      c.act.new.self c.cut.new.self (search rules) (search rules) (c.in_ok-cut.ensures.room room).0
+      c.in_ok-act-in-Granted.ensures.fits;
+  justified = λ order room. tt;
 }
 
 pub returns-in_ok-observe-in-Level-clause-others : goal.returns-in_ok-observe-in-Level-clause-others
@@ -100,3 +109,56 @@ pub returns-in_default-mutex_of-clause-given : goal.returns-in_default-mutex_of-
 returns-in_default-mutex_of-clause-given c =
     none_given c.args.self.now.pieces c.cut.new.self (mutex_now c.args.context.now c.args.self.now)
     c.args.fact.now.what (what.Ceiling c.in-Ceiling.mutex c.in-Ceiling.level) c.args.fact.now.thread c.in-Ceiling.is refl
+
+pub returns-in_ok-observe-in-Level-clause-fits : goal.returns-in_ok-observe-in-Level-clause-fits
+returns-in_ok-observe-in-Level-clause-fits c room used =
+    level_shown c.args.context.now c.args.now.now.time c.args.fact.now c.in-Level.level c.in-Some.task c.of_level-prio.result
+    c.args.self.now c.cut.new.self c.observe.new.self c.in-Level.is c.in-Some.ensures c.of_level-prio.ensures
+    (c.in_ok-cut.ensures.room room).0 c.in_ok-observe-in-Level.ensures.observed
+
+pub returns-in_ok-observe-in-Ceiling-clause-fits : goal.returns-in_ok-observe-in-Ceiling-clause-fits
+returns-in_ok-observe-in-Ceiling-clause-fits c room used =
+    ceiling_shown c.args.context.now c.args.now.now.time c.args.fact.now c.in-Ceiling.mutex c.in-Ceiling.level
+    c.in-Some-mutex_of.mutex c.of_level-ceiling.result c.args.self.now c.cut.new.self c.observe-in-Ceiling.new.self
+    c.in-Ceiling.is c.in-Some-mutex_of.ensures c.of_level-ceiling.ensures (c.in_ok-cut.ensures.room room).0
+    c.in_ok-observe-in-Ceiling.ensures.observed
+
+pub returns-in_err-observe-in-Level-clause-justified : goal.returns-in_err-observe-in-Level-clause-justified
+returns-in_err-observe-in-Level-clause-justified c order room =
+    of_fault
+    (λ fault. IsContradiction fault →
+    CannotShow c.args.context.now c.args.now.now.time c.args.fact.now.what c.args.fact.now c.args.self.now)
+    c.in_err-observe-in-Level.field-0.0 c.from_residual-in_err-observe-in-Level.result
+    c.from_residual-in_err-observe-in-Level.ensures.1
+    (λ fault. level_refused c.args.context.now c.args.now.now.time c.args.fact.now c.in-Level.level c.in-Some.task
+    c.args.self.now c.in-Level.is c.in-Some.ensures
+    (λ can. c.in_err-observe-in-Level.ensures.possible (c.in_ok-cut.ensures.on.order order)
+    (subst (λ (p : Point). CanSetBase p.piece.replay c.in-Some.task) (sym (c.in_ok-cut.ensures.room room).0) can) fault))
+
+pub returns-in_err-observe-in-Ceiling-clause-justified : goal.returns-in_err-observe-in-Ceiling-clause-justified
+returns-in_err-observe-in-Ceiling-clause-justified c order room =
+    of_fault
+    (λ fault. IsContradiction fault →
+    CannotShow c.args.context.now c.args.now.now.time c.args.fact.now.what c.args.fact.now c.args.self.now)
+    c.in_err-observe-in-Ceiling.field-0.0 c.from_residual-in_err-observe-in-Ceiling.result
+    c.from_residual-in_err-observe-in-Ceiling.ensures.1
+    (λ fault. ceiling_refused c.args.context.now c.args.now.now.time c.args.fact.now c.in-Ceiling.mutex c.in-Ceiling.level
+    c.in-Some-mutex_of.mutex c.args.self.now c.in-Ceiling.is c.in-Some-mutex_of.ensures
+    (λ can. c.in_err-observe-in-Ceiling.ensures.possible (c.in_ok-cut.ensures.on.order order)
+    (subst (λ (p : Point). CanSetCeiling p.piece.replay c.in-Some-mutex_of.mutex) (sym (c.in_ok-cut.ensures.room room).0) can)
+    fault))
+
+pub returns-in_err-act-in-Granted-clause-justified : goal.returns-in_err-act-in-Granted-clause-justified
+returns-in_err-act-in-Granted-clause-justified c order room =
+    of_fault
+    (λ fault. IsContradiction fault →
+    CannotShow c.args.context.now c.args.now.now.time c.args.fact.now.what c.args.fact.now c.args.self.now)
+    c.in_err-act-in-Granted.field-0.0 c.from_residual-in_err-act-in-Granted.result
+    c.from_residual-in_err-act-in-Granted.ensures.1
+    (λ fault. cannot_show c.args.context.now c.args.now.now.time c.args.fact.now c.in-Granted.mutex c.args.self.now
+    c.args.fact.now.what (search rules) (search rules)
+    (subst
+    (λ p. CannotAct c.args.context.now c.args.now.now.time c.args.fact.now c.in-Granted.mutex
+    (record c.args.self.now { pieces = p }))
+    (c.in_ok-cut.ensures.room room).0
+    (c.in_err-act-in-Granted.ensures.justified (c.in_ok-cut.ensures.on.order order) fault)))

@@ -2,6 +2,7 @@ use Rattle.std.proofs.Common.{◌≡◌, ◌∙◌, ◌+◌, ◌-◌, ◌^◌, m
 use Rattle.std.proofs.lemmas.List.Elements.{All-push}
 use Rattle.pim_replay.specs.Replays.{ReplayState, KeepsOrder, StaysTheSame}
 use Rattle.pim_builder.specs.Pieces.{Follows, HasTimes, Point, own_steps}
+use Rattle.pim_builder.proofs.Doing.{plain_same}
 use Rattle.pim_builder.proofs.GoingOn.{end_with, steps_begun}
 use Rattle.pim_builder.proofs.Joining.{follows_at_once, joined_more}
 use Rattle.pim_builder.proofs.pieces.Pieces.begin.Goals as goal
@@ -23,6 +24,8 @@ invariant_of-self-3 c =
       steps_begun c.self.inside.ended.items c.self.inside.piece c.steps-self-inside.result
           (c.steps-self-inside.ensures
           ∙ ap (λ es. min (sum_by own_steps es + own_steps c.self.inside.piece) (2 ^ 64 - 1)) c.reserve.ensures.items),
+      plain_same c.self.inside.piece.replay c.args.next.replay c.entries-own.ensures.run c.entries-next.ensures.run
+          (subst (λ (r : ReplayState). StaysTheSame r c.args.next.replay) is c.requires.same) c.self.invariant.3,
     ))
 
 pub returns-clause-ended : goal.returns-clause-ended

@@ -1,6 +1,9 @@
-use Rattle.std.proofs.Common.{◌∙◌, ◌-◌, ◌++◌, ap, length, refl, replicate, subst}
+use Rattle.std.proofs.Common.{◌∙◌, ◌-◌, ◌++◌, Err, ap, length, refl, replicate, subst, sym}
+use Rattle.pim_replay.specs.Possible.{CanDo}
+use Rattle.pim_replay.specs.Replays.{IsInOrder}
 use Rattle.pim_builder.specs.declared.piece.Piece.{Piece}
-use Rattle.pim_builder.specs.Pieces.{AllJoinAt}
+use Rattle.pim_builder.specs.Pieces.{AllJoinAt, Point}
+use Rattle.pim_builder.proofs.Doing.{plain_on}
 use Rattle.pim_builder.proofs.GoingOn.{steps_made}
 use Rattle.pim_builder.proofs.KeepingQueues.{observed_joins, observed_queues}
 use Rattle.pim_builder.proofs.pieces.Pieces.observe.Goals as goal
@@ -31,3 +34,14 @@ returns-clause-given c = λ n given.
     subst (λ p. AllJoinAt p (record { before = c.self.inside.ended.items; piece = new }) n) c.self.view_is
     (observed_joins c.self.inside.ended.items c.self.inside.piece new c.args.observation.now n
     c.in-Ok.ensures.observed given)
+
+pub returns-in-Err-clause-possible : goal.returns-in-Err-clause-possible
+returns-in-Err-clause-possible c = λ order can contradicts.
+    let run = c.entries-run.ensures.run in
+    let plain = plain_on _ _ _ run c.self.invariant.3 in
+    c.observe.ensures.possible (record {
+      order = subst (λ (p : Point). IsInOrder p.piece.replay) (sym c.self.view_is) order;
+      plain = plain;
+      can = subst (λ (p : Point). CanDo p.piece.replay c.args.observation.now) (sym c.self.view_is) can;
+    })
+    (c.in-Err.is ∙ ap Err (c.at_record.ensures.contradiction contradicts))

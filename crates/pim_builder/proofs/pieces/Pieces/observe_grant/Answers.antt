@@ -1,6 +1,10 @@
-use Rattle.std.proofs.Common.{Err, IfOk, Ok, Result}
+use Rattle.std.proofs.Common.{Err, IfOk, Ok, Result, rules}
 use Rattle.std.proofs.lemmas.Result.{IfOk-weaker}
+use Rattle.pim_base.specs.Steady.{IsSteady}
+use Rattle.pim_replay.specs.Replays.{IsInOrder}
+use Rattle.pim_builder.specs.Faults.{IsContradiction}
 use Rattle.pim_builder.specs.Views.{program_at}
+use Rattle.pim_builder.proofs.Doing.{can_grant_at_ceiling, granted_back}
 use Rattle.pim_builder.proofs.Framing.{around_base, by_observation}
 use Rattle.pim_builder.proofs.GoingOn.{goes_on_trans}
 use Rattle.pim_builder.proofs.KeepingQueues.{all_join_since, all_join_upto}
@@ -15,7 +19,7 @@ pub returns-clause-only : goal.returns-clause-only
 returns-clause-only c = IfOk-weaker c.observe-4.result _ _ (λ x last.
     around_base (program_at c.args.self.now) (program_at c.observe-2.new.self) (program_at c.observe-3.new.self)
     (program_at c.observe-4.new.self) c.args.observation.now c.in-Some.above.0 c.in-Some.above.1 c.in-Some.above.2
-    c.in-Some.ensures c.in_ok-observe.ensures.observed c.in_ok-observe-2.ensures.observed last)
+    c.in-Some.ensures.above.base c.in_ok-observe.ensures.observed c.in_ok-observe-2.ensures.observed last)
     c.observe-4.ensures.observed
 
 pub returns-clause-on : goal.returns-clause-on
@@ -37,3 +41,22 @@ returns-clause-given c =
     (all_join_upto c.observe-2.new.self c.observe-3.new.self c.observe-4.new.self n on.reached both.1.reached both.1.queues
     on.order both.0.waits (c.in_ok-observe-2.ensures.given n given)))
     (both_ok c.observe-4.result _ _ c.observe-4.ensures.observed c.observe-4.ensures.on)
+
+pub returns-clause-observed : goal.returns-clause-observed
+returns-clause-observed c = λ grants. IfOk-weaker c.observe-4.result _ _ (λ x last.
+    granted_back (program_at c.args.self.now) (program_at c.observe-2.new.self) (program_at c.observe-3.new.self)
+    (program_at c.observe-4.new.self) c.args.observation.now c.args.task.now c.args.mutex c.in-Some.above.0
+    c.in-Some.above.1 c.in-Some.above.2 grants c.in-Some.ensures.above.base c.in_ok-observe.ensures.observed
+    c.in_ok-observe-2.ensures.observed last) c.observe-4.ensures.observed
+
+pub returns-in_err-observe-2-clause-possible : goal.returns-in_err-observe-2-clause-possible
+returns-in_err-observe-2-clause-possible c = λ order grants can.
+    let steady : IsSteady c.observe-2.new.self.piece.replay.state =
+    search (rules, c.replay.ensures, c.manager.ensures, c.tasks-steady.ensures.steady) in
+    let then : IsInOrder c.observe-2.new.self.piece.replay = c.in_ok-observe.ensures.on.order order in
+    let none : ¬ IsContradiction c.in_err-observe-2.field-0.0 =
+    c.in_err-observe-2.ensures.possible then
+    (can_grant_at_ceiling c.args.self.now.piece.replay c.observe-2.new.self.piece.replay c.args.task.now c.args.mutex
+    c.in-Some.above.0 c.in-Some.above.1 c.in-Some.above.2 c.in-Some.ensures.above c.in_ok-observe.ensures.observed then
+    steady c.args.observation.now grants can) in
+    search (rules, none, c.from_residual-in_err-observe-2.ensures)
