@@ -8,3 +8,5 @@ pub mod Whole
 pub mod OneWay
 pub mod Waiting
 pub mod Numbers
+pub mod Contradicting
+pub mod Stopping

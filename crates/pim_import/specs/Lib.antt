@@ -4,3 +4,4 @@ pub mod KeptSections
 pub mod LeftOut
 pub mod Numbers
 pub mod Waiting
+pub mod Contradicting

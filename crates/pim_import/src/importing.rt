@@ -4,8 +4,10 @@ ghost use Rattle.pim_log.specs.Headers.{header_of, end_of};
 ghost use Rattle.pim_log.specs.Logs.{IsLog};
 ghost use Rattle.pim_course.specs.Reading.{Begins};
 ghost use Rattle.pim_course.specs.Requests.{IsInOrder};
-ghost use Rattle.pim_builder.specs.Faults.{NamesOneOf, NamesOnly};
+ghost use Rattle.pim_builder.specs.Faults.{IsContradiction, NamesOneOf, NamesOnly};
 ghost use Rattle.pim_findings.specs.Waits.{Moment};
+ghost use Rattle.pim_builder.specs.declared.fault.ImportFault.TheVariants as import;
+ghost use Rattle.pim_import.specs.Contradicting.{ContradictsAt, IsContradicted, IsUnfit, StopsShowing};
 ghost use Rattle.pim_import.specs.Following.{AreAdded, AreOfLog, ArePlaced, FollowsLog, HasAdded, HasFollowed, IsOfLog, Knows};
 ghost use Rattle.pim_import.specs.Following.{moment_of, moments_of};
 ghost use Rattle.pim_facts.specs.Shown.{shown_in};
@@ -87,6 +89,8 @@ pub fn import_log(
     ensures times { IfOk result (λ imported. All HasTimes imported.built.pieces.items) }
     ensures findings { IfOk result (IsOfLog log.now waits.now options.keeps_all) }
     ensures fault { IfErr result (NamesOneOf (end_of (header_of log.now))) }
+    ensures contradiction { IfErr result (λ fault. (number : ℕ) → fault ≡ import.Contradiction number →
+        IsContradicted log.now waits.now options.keeps_all number) }
 {
     let sources = sources_of(alloc, log, waits)?;
     let (sections, participants) = CriticalSections::of(alloc, log, &sources, options.keeps_all)?;
@@ -115,6 +119,7 @@ fn sources_of(alloc: Global, log: &Log, waits: &[Wait]) -> Result<Sources, Impor
     ensures of_log { IsLog log.now → IfOk result (AreOfLog log.now waits.now) }
     ensures requests { IfOk result (λ sources. ArePlaced log.now sources.requests.list.items) }
     ensures fault { IfErr result (NamesOneOf (end_of (header_of log.now))) }
+    ensures none { IfErr result (λ fault. ¬ IsContradiction fault) }
 {
     let (ids, named) = match Ids::of(alloc, log) {
         Ok(found) => found,
@@ -149,6 +154,10 @@ fn build(
         ((builder : TraceBuilder) → AreShown context.now [] builder → Knows context.now n k sections.now [] findings builder) →
         FollowsLog log.now context.now sections.now n k built) }
     ensures fault { IfErr result (NamesOneOf (end_of (header_of log.now))) }
+    ensures contradiction { IfErr result (λ fault. (number n k : ℕ) → fault ≡ import.Contradiction number →
+        ArePlaced log.now context.now.sources.now.requests.list.items →
+        ((builder : TraceBuilder) → AreShown context.now [] builder → Knows context.now n k sections.now [] findings builder) →
+        ContradictsAt log.now context.now sections.now n k number) }
 {
     let sources = context.sources;
     let mut builder = TraceBuilder::new(alloc, context)?;
@@ -191,6 +200,11 @@ fn play(
         Knows context.now n k sections.now [] findings.old builder.old →
         (time : ℕ) × HasAdded log.now context.now sections.now n k (end - 1) time walk.new findings.new builder.new) }
     ensures fault { IfErr result (NamesOneOf end) }
+    ensures contradiction { IfErr result (λ fault. (number n k : ℕ) → fault ≡ import.Contradiction number →
+        Begins context.now.sources.now.ids walk.old.course → walk.old.added ≡ 0 →
+        ArePlaced log.now context.now.sources.now.requests.list.items →
+        Knows context.now n k sections.now [] findings.old builder.old →
+        ContradictsAt log.now context.now sections.now n k number) }
 {
     let mut tally = Tally::new();
     let mut time = 0;
@@ -224,6 +238,9 @@ fn add_requests(
         IsInOrder requests → AreAdded requests (now.now.number - 1) walk.old.added →
         AreAdded requests now.now.number walk.new.added) }
     ensures fault { IfErr result (NamesOnly now.now.number) }
+    ensures contradiction { IfErr result (λ fault. IsContradiction fault → (bytes : List ℕ) (n k : ℕ) →
+        HasFollowed bytes context.now sections.now n k now.now.number now.now.time walk.old findings.old builder.old →
+        ContradictsAt bytes context.now sections.now n k now.now.number) }
 {
     for _request in 0..walk.missing(context.sources, now.number) {
         let then = Now {
@@ -260,6 +277,9 @@ fn show(
         let shown = moments_of context.now.sources.now walk.now.course now.now.time (shown_in walk.now.course.shown) in
         Knows context.now n k sections.now (shown ++ facts) findings.new builder.new) }
     ensures fault { IfErr result (NamesOnly now.now.number) }
+    ensures stops { IfErr result (λ fault. IsContradiction fault → (n k : ℕ) (facts : List Moment) →
+        Knows context.now n k sections.now facts findings.old builder.old →
+        StopsShowing context.now n k sections.now walk.now.course now.now.time facts) }
 {
     let mut is_used = false;
     let shown = walk.shown();
@@ -296,6 +316,9 @@ fn show_fact(
         Knows context.now n k sections.now
         (moment_of context.now.sources.now walk.now.course now.now.time fact.now ∷ facts) findings.new builder.new) }
     ensures fault { IfErr result (NamesOnly now.now.number) }
+    ensures unfit { IfErr result (λ fault. IsContradiction fault → (n k : ℕ) (facts : List Moment) →
+        Knows context.now n k sections.now facts findings.old builder.old →
+        IsUnfit context.now n sections.now walk.now.course now.now.time fact.now builder.old) }
 {
     if !findings.has_thread(fact.thread) {
         return Err(ImportFault::Contradiction(now.number));

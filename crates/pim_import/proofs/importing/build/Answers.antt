@@ -2,6 +2,8 @@ use Rattle.std.proofs.Common.{◌∙◌, ap, refl, rules}
 use Rattle.std.proofs.lemmas.Result.{err_from_is_err_and}
 use Rattle.pim_log.specs.Headers.{end_of}
 use Rattle.pim_findings.specs.Orders.{nested_of}
+use Rattle.pim_builder.specs.declared.fault.ImportFault.TheVariants.{Memory}
+use Rattle.pim_import.proofs.Contradicting.{names-none-not}
 use Rattle.pim_import.proofs.Following.{follows-log}
 use Rattle.pim_import.proofs.importing.build.Goals as goal
 
@@ -29,3 +31,26 @@ returns-in_err-walk-clause-fault c =
 pub returns-in_err-tally-clause-fault : goal.returns-in_err-tally-clause-fault
 returns-in_err-tally-clause-fault c =
     search (rules, c.from_residual-in_err-tally.ensures, c.in_err-tally.ensures.fault, c.end-end.ensures, c.header.ensures)
+
+pub returns-in_err-walk-clause-contradiction : goal.returns-in_err-walk-clause-contradiction
+returns-in_err-walk-clause-contradiction c =
+    let p = err_from_is_err_and c.from_residual-in_err-walk.result c.from_residual-in_err-walk.ensures.1 in
+    rw (p.1, p.2) (λ number n k is placed knows. absurd (names-none-not Memory number tt is))
+
+pub returns-in_err-tally-clause-contradiction : goal.returns-in_err-tally-clause-contradiction
+returns-in_err-tally-clause-contradiction c =
+    let p = err_from_is_err_and c.from_residual-in_err-tally.result c.from_residual-in_err-tally.ensures.1 in
+    rw (p.1, p.2) (λ number n k is placed knows.
+    c.in_err-tally.ensures.contradiction number n k is c.in_ok-walk.ensures.begins c.in_ok-walk.ensures.added placed
+    (knows c.in_ok-builder.builder c.in_ok-builder.ensures.shown))
+
+pub returns-in_err-end-clause-contradiction : goal.returns-in_err-end-clause-contradiction
+returns-in_err-end-clause-contradiction c =
+    let p = err_from_is_err_and c.from_residual-in_err-end.result c.from_residual-in_err-end.ensures.1 in
+    rw (p.1, p.2) (λ number n k is placed knows. absurd (names-none-not Memory number tt is))
+
+pub returns-in_err-pieces-clause-contradiction : goal.returns-in_err-pieces-clause-contradiction
+returns-in_err-pieces-clause-contradiction c =
+    let p = err_from_is_err_and c.from_residual-in_err-pieces.result c.from_residual-in_err-pieces.ensures.1 in
+    rw (p.1, p.2) (λ number n k is placed knows.
+    absurd (names-none-not c.in_err-pieces.field-0.0 number c.in_err-pieces.ensures.fault is))

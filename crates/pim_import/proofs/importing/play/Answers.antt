@@ -1,6 +1,10 @@
-use Rattle.std.proofs.Common.{◌≡◌, ◌+◌, ◌-◌, subst, sym, arith}
+use Rattle.std.proofs.Common.{◌≡◌, ◌+◌, ◌-◌, subst, sym, arith, inl, inr, refl}
+use Rattle.std.proofs.lemmas.Result.{err_from_is_err_and}
 use Rattle.pim_import.proofs.Adding.{none-added}
+use Rattle.pim_import.proofs.Contradicting.{contradicts-record, is-contradiction, only-one}
 use Rattle.pim_import.proofs.Following.{follows-begin, follows-record}
+use Rattle.pim_builder.specs.declared.fault.ImportFault.TheVariants.{Contradiction}
+use Rattle.pim_import.specs.Contradicting.{ContradictsAt}
 use Rattle.pim_import.specs.Following.{AreAdded, HasAdded}
 use Rattle.pim_import.proofs.importing.play.Goals as goal
 
@@ -61,3 +65,51 @@ returns-clause-follows c n k begins none placed knows = (
       c.loop-number.walk c.loop-number.findings c.loop-number.builder) at
       (c.loop-number.invariant.follows n k begins none placed knows),
 )
+
+pub returns-then-walk-clause-contradiction : goal.returns-then-walk-clause-contradiction
+returns-then-walk-clause-contradiction c number n k is begins none placed knows =
+    let log = c.args.log.now in
+    let context = c.args.context.now in
+    let sections = c.args.sections.now in
+    subst (ContradictsAt log context sections n k)
+    (sym (only-one (Contradiction c.loop-number.number) number c.loop-number.number is refl))
+    (contradicts-record log context sections n k c.loop-number.number c.loop-number.time _ c.read-moment.result.time
+    c.loop-number.walk c.read-moment.new.self c.loop-number.findings c.loop-number.builder c.loop-number.auto.number refl
+    c.read-moment.ensures.time c.read-moment.ensures.added c.read-moment.ensures.size c.read-moment.ensures.shown
+    (inl c.if-walk.true) (c.loop-number.invariant.follows n k begins none placed knows))
+
+pub returns-in_err-is_used-clause-contradiction : goal.returns-in_err-is_used-clause-contradiction
+returns-in_err-is_used-clause-contradiction c =
+    let log = c.args.log.now in
+    let context = c.args.context.now in
+    let sections = c.args.sections.now in
+    let fault = err_from_is_err_and c.from_residual.result c.from_residual.ensures.1 in
+    let told = c.in_err-is_used.ensures in
+    rw (fault.1, fault.2) (λ number n k is begins none placed knows.
+    subst (ContradictsAt log context sections n k)
+    (sym (only-one c.in_err-is_used.field-0.0 number c.loop-number.number is told.fault))
+    (contradicts-record log context sections n k c.loop-number.number c.loop-number.time c.unwrap_or-time.result
+    c.read-moment.result.time c.loop-number.walk c.read-moment.new.self c.loop-number.findings c.loop-number.builder
+    c.loop-number.auto.number c.unwrap_or-time.ensures c.read-moment.ensures.time c.read-moment.ensures.added
+    c.read-moment.ensures.size c.read-moment.ensures.shown
+    (inr (told.stops (is-contradiction c.in_err-is_used.field-0.0 number is) n k))
+    (c.loop-number.invariant.follows n k begins none placed knows)))
+
+pub returns-in_err-add_requests-clause-contradiction : goal.returns-in_err-add_requests-clause-contradiction
+returns-in_err-add_requests-clause-contradiction c =
+    let log = c.args.log.now in
+    let context = c.args.context.now in
+    let sections = c.args.sections.now in
+    let residual = c.from_residual-in_err-add_requests in
+    let fault = err_from_is_err_and residual.result residual.ensures.1 in
+    let told = c.in_err-add_requests.ensures in
+    rw (fault.1, fault.2) (λ number n k is begins none placed knows.
+    subst (ContradictsAt log context sections n k)
+    (sym (only-one c.in_err-add_requests.field-0.0 number c.loop-number.number is told.fault))
+    (told.contradiction (is-contradiction c.in_err-add_requests.field-0.0 number is) log n k
+    (follows-record log context sections n k c.loop-number.number c.loop-number.time c.unwrap_or-time.result
+    c.read-moment.result.time c.loop-number.walk c.read-moment.new.self c.loop-number.findings c.show.new.findings
+    c.loop-number.builder c.show.new.builder c.loop-number.auto.number c.unwrap_or-time.ensures
+    c.read-moment.ensures.time c.read-moment.ensures.added
+    c.read-moment.ensures.size c.read-moment.ensures.shown (c.in_ok-is_used.ensures.finds n k)
+    (c.loop-number.invariant.follows n k begins none placed knows))))

@@ -1,11 +1,15 @@
-use Rattle.std.proofs.Common.{◌≡◌, ◌⊎◌, ◌||◌, ◌∙◌, ◌++◌, List, sym, Bool, false, true, refl, subst, All, rules}
+use Rattle.std.proofs.Common.{ℕ, ◌≡◌, ◌⊎◌, ◌||◌, ◌∙◌, ◌++◌, List, sym, Bool, false, true, refl, subst, All, rules}
 use lib.Seq.{take_all}
 use Rattle.std.proofs.lemmas.List.Elements.{All-more}
+use Rattle.pim_builder.proofs.Justifying.{of_fault}
+use Rattle.pim_builder.specs.Faults.{IsContradiction}
 use Rattle.pim_builder.specs.Showing.{IsSetting}
 use Rattle.pim_import.specs.LeftOut.{IsKept, MayBeLeftOut}
 use Rattle.pim_facts.specs.declared.fact.Fact.{Fact}
 use Rattle.pim_findings.specs.Waits.{Moment}
 use Rattle.pim_import.proofs.Following.{moments-more}
+use Rattle.pim_import.proofs.Stopping.{stops-at}
+use Rattle.pim_import.specs.Contradicting.{StopsShowing}
 use Rattle.pim_import.specs.Following.{Knows, moments_of}
 use Rattle.pim_import.proofs.importing.show.Goals as goal
 
@@ -59,3 +63,18 @@ returns-clause-finds c n k facts knows =
     (moments_of sources course c.args.now.now.time shown ++ facts) c.loop-fact.findings c.loop-fact.builder)
     (take_all c.loop-fact.fact-index c.shown-shown.result.now c.loop-fact-test.false ∙ c.shown-shown.ensures)
     (c.loop-fact.invariant.finds n k facts knows)
+
+pub returns-in_err-is_used-clause-stops : goal.returns-in_err-is_used-clause-stops
+returns-in_err-is_used-clause-stops c =
+    let context = c.args.context.now in
+    let course = c.args.walk.now.course in
+    of_fault
+    (λ fault. IsContradiction fault → (n k : ℕ) (facts : List Moment) →
+    Knows context n k c.args.sections.now facts c.args.findings.now c.args.builder.now →
+    StopsShowing context n k c.args.sections.now course c.args.now.now.time facts)
+    c.in_err-is_used.field-0.0 c.from_residual.result c.from_residual.ensures.1
+    (λ fault n k facts knows.
+    let known = c.loop-fact.invariant.finds n k facts knows in
+    stops-at context n k c.args.sections.now course c.args.now.now.time facts c.shown-shown.result.now
+    c.loop-fact.fact-index _ c.loop-fact.findings c.loop-fact.builder c.loop-fact-test.true c.shown-shown.ensures known
+    (c.in_err-is_used.ensures.unfit fault n k _ known))

@@ -3,6 +3,7 @@ use Rattle.pim_findings.proofs.Nested.{orders-more}
 use Rattle.pim_findings.specs.Bounds.{observed_of}
 use Rattle.pim_findings.specs.Waits.{Moment}
 use Rattle.pim_import.proofs.Following.{if-ok-then, kept-false, true-isnt-false, knows-with, knows-without}
+use Rattle.pim_import.proofs.Stopping.{kept-unfit}
 use Rattle.pim_import.specs.Following.{moment_of}
 use Rattle.pim_import.proofs.importing.show_fact.Goals as goal
 
@@ -19,6 +20,11 @@ returns-then-has-clause-finds c =
     c.look.ensures.orders c.look.ensures.sections
     (c.in_ok-look.ensures.waits n k) (c.in_ok-look.ensures.owns k) (c.in_ok-look.ensures.hand_overs n k) made)
     c.build.ensures.shown
+
+pub returns-then-has-clause-unfit : goal.returns-then-has-clause-unfit
+returns-then-has-clause-unfit c =
+    kept-unfit c.args.context.now c.args.sections.now c.args.walk.now.course c.args.now.now.time c.args.fact.now
+    c.args.findings.now c.args.builder.now c.build.result (c.has.ensures.0 c.if-has.true) c.build.ensures.justified
 
 pub returns-clause-finds : goal.returns-clause-finds
 returns-clause-finds c n k facts =
