@@ -10,7 +10,7 @@ use pim_facts::{Fact, LoggedThread, What};
 use std::alloc::{AllocError, Global};
 
 /// A thread that may be blocked.
-#[derive(Clone, Copy, PartialEq, Eq)]
+#[derive(Clone, Copy)]
 pub(crate) struct Blocked {
     /// The highest level that it had.
     pub level: u8,

@@ -40,7 +40,7 @@ pub struct Bound {
 }
 
 /// Of what there is one section.
-#[derive(Clone, Copy, PartialEq, Eq)]
+#[derive(Clone, Copy)]
 enum Per {
     Thread,
     Mutex,

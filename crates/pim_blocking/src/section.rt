@@ -10,7 +10,7 @@ pub struct User {
 }
 
 /// The longest critical section of a user that was observed.
-#[derive(Clone, Copy, PartialEq, Eq)]
+#[derive(Clone, Copy)]
 pub struct Section {
     pub user: User,
     /// How long it lasted, in nanoseconds: with all preemptions and waits. 0 if the user only

@@ -12,7 +12,7 @@ use std::alloc::{AllocError, Global};
 use std::collections::HashMap;
 
 /// A critical section that lasts.
-#[derive(Clone, Copy, PartialEq, Eq)]
+#[derive(Clone, Copy)]
 struct Open {
     user: User,
     /// When the mutex was granted: CLOCK_MONOTONIC in nanoseconds.

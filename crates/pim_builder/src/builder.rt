@@ -34,14 +34,14 @@ use pim_replay::{Observation, Priorities, Replay};
 use std::alloc::{AllocError, Global};
 
 /// A thread or a mutex of the log.
-#[derive(Clone, Copy, PartialEq, Eq)]
+#[derive(Clone, Copy)]
 pub enum Who {
     Thread(u32),
     Mutex(u32),
 }
 
 /// Who appears in the trace, and when.
-#[derive(Clone, Copy, PartialEq, Eq)]
+#[derive(Clone, Copy)]
 pub struct Appearance {
     /// The number of the step before which it appears, over all pieces, without those that restore a state, from 0 on: at
     /// most 2^64 - 1.
@@ -412,7 +412,7 @@ pub struct Context<'a> {
 }
 
 /// The record that shows a fact, and when that happened.
-#[derive(Clone, Copy, PartialEq, Eq)]
+#[derive(Clone, Copy)]
 pub struct Now {
     /// The number of the record.
     pub number: u64,

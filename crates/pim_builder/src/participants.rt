@@ -3,7 +3,7 @@
 use crate::span::Span;
 
 /// When a thread or a mutex takes part, and what it has as it begins to.
-#[derive(Clone, Copy, PartialEq, Eq)]
+#[derive(Clone, Copy)]
 pub struct Participant {
     /// The first and the last record in the trace that shows it.
     pub span: Span,

@@ -1,7 +1,7 @@
 //! The records of a thread or a mutex.
 
 /// The records of a thread or a mutex, from the first to the last that names it.
-#[derive(Clone, Copy, PartialEq, Eq)]
+#[derive(Clone, Copy)]
 pub struct Span {
     /// The number of the first of these records.
     pub first: u64,

@@ -14,7 +14,7 @@ use std::alloc::{AllocError, Global};
 use std::collections::HashMap;
 
 /// A thread ran at another priority than POSIX gives.
-#[derive(Clone, Copy, PartialEq, Eq)]
+#[derive(Clone, Copy)]
 pub struct Found {
     /// The thread, by its number in the log.
     pub thread: u32,
@@ -28,7 +28,7 @@ pub struct Found {
 }
 
 /// A wait that a thread lengthened which ran at too low a priority.
-#[derive(Clone, Copy, PartialEq, Eq)]
+#[derive(Clone, Copy)]
 pub struct Lengthened {
     /// The thread that waited, by its number in the log.
     pub thread: u32,

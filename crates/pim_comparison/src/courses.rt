@@ -9,7 +9,7 @@ use pim_manager::{Manager, TrackedManager};
 use std::alloc::{AllocError, Global};
 
 /// The priority of a thread from some step on.
-#[derive(Clone, Copy, PartialEq, Eq)]
+#[derive(Clone, Copy)]
 pub struct Turn {
     pub mark: Mark,
     /// Why it has that priority.
@@ -20,7 +20,7 @@ pub struct Turn {
 
 /// A thread that waits for a mutex, by their numbers in the log. While the thread that it boosts has the same priority,
 /// another may have become the first waiter in its place.
-#[derive(Clone, Copy, PartialEq, Eq)]
+#[derive(Clone, Copy)]
 pub struct Waiter {
     pub thread: u32,
     pub mutex: u32,

@@ -5,7 +5,7 @@ use pim_kernel_events::Stretch;
 use std::alloc::{AllocError, Global};
 
 /// A task ran at another priority than it should have.
-#[derive(Clone, Copy, PartialEq, Eq)]
+#[derive(Clone, Copy)]
 pub struct Difference {
     /// The level at which it ran.
     pub level: u8,

@@ -3,7 +3,7 @@
 /// What a task's priority should be from some time on.
 ///
 /// When that begins is known only within bounds: a record of a log is put before a release, and after a priority was set.
-#[derive(Clone, Copy, PartialEq, Eq)]
+#[derive(Clone, Copy)]
 pub struct Mark {
     /// The earliest time at which it may begin.
     pub earliest: u64,

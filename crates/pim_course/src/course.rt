@@ -31,7 +31,7 @@ pub struct Sources {
 }
 
 /// A mutex in the course of a program. By default it is free.
-#[derive(Clone, Copy, Default, PartialEq, Eq)]
+#[derive(Clone, Copy, Default)]
 pub struct CourseMutex {
     /// Its owner, if it has one.
     pub owner: Option<u32>,
@@ -57,7 +57,7 @@ pub struct CourseMutex {
 }
 
 /// A thread in the course of a program. By default it does nothing.
-#[derive(Clone, Copy, Default, PartialEq, Eq)]
+#[derive(Clone, Copy, Default)]
 pub struct CourseThread {
     /// The mutex that it waits for, if it waits.
     pub awaits: Option<u32>,

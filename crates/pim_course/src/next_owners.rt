@@ -28,7 +28,7 @@ pub struct NextOwners {
 }
 
 /// What is kept of a RELEASE or a REQUEST, in four bytes.
-#[derive(Clone, Copy, PartialEq, Eq)]
+#[derive(Clone, Copy)]
 enum Kept {
     /// What [`owner`](NextOwners::owner) returns.
     Owner(Option<u32>),

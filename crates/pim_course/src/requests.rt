@@ -4,7 +4,7 @@ ghost use Rattle.pim_course.specs.Requests.{IsInOrder};
 use std::alloc::Global;
 
 /// A request that the log lacks.
-#[derive(Clone, Copy, PartialEq, Eq)]
+#[derive(Clone, Copy)]
 pub struct Request {
     /// The number of the record behind which it belongs. If no wait shows the request, that is the first grant of the mutex
     /// to another since the call began, or a later record of the thread before its call. Of a call whose begin isn't known

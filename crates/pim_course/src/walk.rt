@@ -25,7 +25,7 @@ pub struct Walk {
 }
 
 /// When a record was put, and what becomes of it.
-#[derive(Clone, Copy, PartialEq, Eq)]
+#[derive(Clone, Copy)]
 pub struct Moment {
     /// CLOCK_MONOTONIC in nanoseconds, if the record has a time.
     pub time: Option<u64>,

@@ -2,7 +2,7 @@
 ghost use Rattle.std.specs.Prelude.{◌<◌};
 
 /// What happened. Threads and mutexes have the numbers of [`Ids`](crate::Ids).
-#[derive(Clone, Copy, PartialEq, Eq)]
+#[derive(Clone, Copy)]
 pub enum What {
     /// The thread owns this mutex, and waits for nothing.
     Granted(u32),
@@ -27,7 +27,7 @@ pub enum What {
 }
 
 /// What a record shows of a thread.
-#[derive(Clone, Copy, PartialEq, Eq)]
+#[derive(Clone, Copy)]
 pub struct Fact {
     pub what: What,
     /// The thread that did it, or to which it happened.
@@ -41,7 +41,7 @@ pub struct Fact {
 }
 
 /// Why a record isn't in the trace.
-#[derive(Clone, Copy, PartialEq, Eq)]
+#[derive(Clone, Copy)]
 pub enum LeftOut {
     /// No record has the number: its thread was killed while it put the record.
     Absent,

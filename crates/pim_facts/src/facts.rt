@@ -5,7 +5,7 @@ ghost use Rattle.pim_facts.specs.Shown.{shown_in};
 use crate::fact::{Fact, What};
 
 /// What a record shows, in order. What an earlier record should have told comes first.
-#[derive(Clone, Copy, PartialEq, Eq)]
+#[derive(Clone, Copy)]
 pub struct Facts {
     /// The first `count` are shown.
     list: [Fact; MOST_FACTS],

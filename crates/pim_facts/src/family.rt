@@ -6,7 +6,7 @@ use crate::level::MAX_LEVEL;
 use pim_log::{Mutex, Protocol};
 
 /// The protocol of a mutex, as a log has it.
-#[derive(Clone, Copy, PartialEq, Eq)]
+#[derive(Clone, Copy)]
 pub enum Family {
     /// PTHREAD_PRIO_NONE, also where the log can't know the protocol.
     None,

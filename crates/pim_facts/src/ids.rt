@@ -21,7 +21,7 @@ use std::collections::HashMap;
 pub const MAX_THREADS: u32 = 1 << 22;
 
 /// A thread of a log.
-#[derive(Clone, Copy, PartialEq, Eq)]
+#[derive(Clone, Copy)]
 pub struct LoggedThread {
     /// The kernel's number of its process. `None` if no record is the thread's.
     pub process: Option<u32>,
@@ -32,7 +32,7 @@ pub struct LoggedThread {
 }
 
 /// A mutex of a log. A mutex that is initialised again is another one.
-#[derive(Clone, Copy, PartialEq, Eq)]
+#[derive(Clone, Copy)]
 pub struct LoggedMutex {
     /// The kernel's number of its process. `None` if processes share it.
     pub process: Option<u32>,
@@ -75,7 +75,7 @@ struct Places {
 }
 
 /// The mutex that a record of this process means by an address.
-#[derive(Clone, Copy, PartialEq, Eq)]
+#[derive(Clone, Copy)]
 struct Found {
     process: u32,
     mutex: u32,

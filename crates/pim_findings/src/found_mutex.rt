@@ -4,7 +4,7 @@ ghost use Rattle.pim_findings.specs.HandOvers.{and_to, handed_to};
 ghost use Rattle.pim_findings.specs.Ownerships.{IsLongest, and_since};
 
 /// To whom a mutex went for which threads waited.
-#[derive(Clone, Copy, PartialEq, Eq)]
+#[derive(Clone, Copy)]
 pub struct HandOvers {
     /// To the first waiter.
     pub in_order: u64,
@@ -17,7 +17,7 @@ pub struct HandOvers {
 }
 
 /// A thread owned a mutex without a break, while that was in the trace.
-#[derive(Clone, Copy, PartialEq, Eq)]
+#[derive(Clone, Copy)]
 pub struct FoundOwnership {
     pub thread: u32,
     /// How long, in nanoseconds.
@@ -25,7 +25,7 @@ pub struct FoundOwnership {
 }
 
 /// What is found of a mutex.
-#[derive(Clone, Copy, PartialEq, Eq)]
+#[derive(Clone, Copy)]
 pub struct FoundMutex {
     pub hand_overs: HandOvers,
     /// The longest ownership that ended, of equally long ones the first. `None` if none took any time.
@@ -37,7 +37,7 @@ pub struct FoundMutex {
 }
 
 /// A release of a mutex for which threads wait.
-#[derive(Clone, Copy, PartialEq, Eq)]
+#[derive(Clone, Copy)]
 pub(crate) struct Left {
     /// Who released it.
     pub thread: u32,

@@ -6,7 +6,7 @@ use pim_course::{Course, Sources, family_of};
 use pim_facts::{Fact, Family};
 
 /// A thread that owned a mutex as a wait for it began.
-#[derive(Clone, Copy, PartialEq, Eq)]
+#[derive(Clone, Copy)]
 pub struct FoundOwner {
     pub thread: u32,
     /// Its level then.
@@ -16,7 +16,7 @@ pub struct FoundOwner {
 }
 
 /// A wait for a mutex.
-#[derive(Clone, Copy, PartialEq, Eq)]
+#[derive(Clone, Copy)]
 pub struct FoundWait {
     /// The thread that waited.
     pub thread: u32,

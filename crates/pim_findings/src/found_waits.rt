@@ -12,7 +12,7 @@ use std::alloc::{AllocError, Global};
 pub const LONGEST: usize = 10;
 
 /// The waits for a mutex.
-#[derive(Clone, Copy, PartialEq, Eq)]
+#[derive(Clone, Copy)]
 pub struct MutexWaits {
     /// How many there were.
     pub count: u64,

@@ -16,7 +16,7 @@ use pim_facts::lists::push;
 use std::alloc::{AllocError, Global};
 
 /// A wait that lasts.
-#[derive(Clone, Copy, PartialEq, Eq)]
+#[derive(Clone, Copy)]
 struct Open {
     /// From 1 on, in the order in which waits begin.
     number: u64,
@@ -24,7 +24,7 @@ struct Open {
 }
 
 /// A wait that lasts, as far as the first waiter is looked for by it.
-#[derive(Clone, Copy, PartialEq, Eq)]
+#[derive(Clone, Copy)]
 struct Queued {
     /// That of the wait, from 1 on.
     number: u64,
@@ -33,7 +33,7 @@ struct Queued {
 }
 
 /// A thread releases a mutex.
-#[derive(Clone, Copy, PartialEq, Eq)]
+#[derive(Clone, Copy)]
 pub(crate) struct Release {
     pub thread: u32,
     pub mutex: u32,

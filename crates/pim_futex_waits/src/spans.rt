@@ -9,7 +9,7 @@ use crate::wait::FutexWait;
 use std::alloc::{AllocError, Global};
 
 /// A stretch of time of a task, its ends included.
-#[derive(Clone, Copy, PartialEq, Eq)]
+#[derive(Clone, Copy)]
 pub struct Span {
     /// The task, by the kernel's number.
     pub task: u32,
@@ -20,7 +20,7 @@ pub struct Span {
 }
 
 /// A time of a task.
-#[derive(Clone, Copy, PartialEq, Eq)]
+#[derive(Clone, Copy)]
 struct TaskTime {
     task: u32,
     time: u64,

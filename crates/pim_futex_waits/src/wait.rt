@@ -5,7 +5,7 @@ ghost use Rattle.pim_futex_waits.specs.Waits.{end_by, with_level, with_waker};
 use pim_kernel_events::{Answer, Event, What};
 
 /// A task that woke another one.
-#[derive(Clone, Copy, PartialEq, Eq)]
+#[derive(Clone, Copy)]
 pub struct Waker {
     /// By the kernel's number. It may be the idle task, 0.
     pub task: u32,
@@ -14,7 +14,7 @@ pub struct Waker {
 }
 
 /// How a wait ended.
-#[derive(Clone, Copy, PartialEq, Eq)]
+#[derive(Clone, Copy)]
 pub enum End {
     /// The task was woken, by this one if it is known.
     Woken(Option<Waker>),
@@ -26,7 +26,7 @@ pub enum End {
 }
 
 /// A wait of a real-time task for a futex.
-#[derive(Clone, Copy, PartialEq, Eq)]
+#[derive(Clone, Copy)]
 pub struct FutexWait {
     /// The task, by the kernel's number.
     pub task: u32,
@@ -53,14 +53,14 @@ pub struct FutexWaits {
 }
 
 /// A stretch in which events were lost.
-#[derive(Clone, Copy, PartialEq, Eq)]
+#[derive(Clone, Copy)]
 pub(crate) struct Lost {
     pub from: u64,
     pub to: u64,
 }
 
 /// A call that waits for a futex and hasn't returned.
-#[derive(Clone, Copy, PartialEq, Eq)]
+#[derive(Clone, Copy)]
 pub(crate) struct Call {
     /// The line with which it began.
     pub line: u64,

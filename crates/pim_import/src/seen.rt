@@ -7,7 +7,7 @@ use pim_facts::{Fact, What};
 use std::alloc::{AllocError, Global};
 
 /// What a record shows of a thread and a mutex.
-#[derive(Clone, Copy, PartialEq, Eq)]
+#[derive(Clone, Copy)]
 struct Appearing {
     /// The number of the record.
     number: u64,

@@ -5,7 +5,7 @@ ghost use Rattle.pim_import.specs.Tallies.{total};
 use pim_facts::LeftOut;
 
 /// How many records are in the trace, and how many are left out for each reason.
-#[derive(Clone, Copy, PartialEq, Eq)]
+#[derive(Clone, Copy)]
 pub struct Tally {
     /// The records that the trace shows.
     pub used: u64,

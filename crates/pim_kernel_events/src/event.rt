@@ -1,7 +1,7 @@
 //! What a line of the file says happened.
 
 /// A task stops, and the next one runs.
-#[derive(Clone, Copy, PartialEq, Eq)]
+#[derive(Clone, Copy)]
 pub struct Switch {
     /// The level of the task that stops.
     pub level: u8,
@@ -18,7 +18,7 @@ pub struct Switch {
 }
 
 /// A boost of a task begins, changes or ends.
-#[derive(Clone, Copy, PartialEq, Eq)]
+#[derive(Clone, Copy)]
 pub struct Boost {
     /// The task whose priority changes.
     pub task: u32,
@@ -29,7 +29,7 @@ pub struct Boost {
 }
 
 /// Events are missing, up to the time of this line.
-#[derive(Clone, Copy, PartialEq, Eq)]
+#[derive(Clone, Copy)]
 pub struct Loss {
     /// How many.
     pub events: u64,
@@ -38,7 +38,7 @@ pub struct Loss {
 }
 
 /// What a futex call returned.
-#[derive(Clone, Copy, PartialEq, Eq)]
+#[derive(Clone, Copy)]
 pub enum Answer {
     /// 0, or a count.
     Success,
@@ -51,7 +51,7 @@ pub enum Answer {
 }
 
 /// What happened.
-#[derive(Clone, Copy, PartialEq, Eq)]
+#[derive(Clone, Copy)]
 pub enum What {
     Switch(Switch),
     Boost(Boost),
@@ -71,7 +71,7 @@ pub enum What {
 }
 
 /// A line of the file.
-#[derive(Clone, Copy, PartialEq, Eq)]
+#[derive(Clone, Copy)]
 pub struct Event {
     /// The number of the line, from 1 on.
     pub line: u64,

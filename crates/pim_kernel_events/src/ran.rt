@@ -1,7 +1,7 @@
 //! A stretch in which a task ran on a CPU.
 
 /// A task ran on a CPU without a break.
-#[derive(Clone, Copy, PartialEq, Eq)]
+#[derive(Clone, Copy)]
 pub struct Ran {
     pub cpu: u32,
     /// CLOCK_MONOTONIC in nanoseconds.

@@ -8,7 +8,7 @@
 ///
 /// The priority in force was `before` at its begin and `after` at its end. If they differ, a thread set it in between,
 /// which the kernel's events don't show.
-#[derive(Clone, Copy, PartialEq, Eq)]
+#[derive(Clone, Copy)]
 pub struct Stretch {
     /// CLOCK_MONOTONIC in nanoseconds.
     pub begin: u64,

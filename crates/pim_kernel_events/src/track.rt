@@ -5,7 +5,7 @@ use crate::stretches::Stretches;
 use std::alloc::{AllocError, Global};
 
 /// A futex call of a mutex with priority inheritance.
-#[derive(Clone, Copy, PartialEq, Eq)]
+#[derive(Clone, Copy)]
 pub struct Call {
     /// Whether it unlocks the mutex.
     pub is_unlock: bool,

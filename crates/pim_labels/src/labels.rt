@@ -26,7 +26,7 @@ struct Child {
 }
 
 /// What the texts of a thread belong to.
-#[derive(Clone, Copy, PartialEq, Eq)]
+#[derive(Clone, Copy)]
 enum Pending {
     Nothing,
     /// The name of a thread.

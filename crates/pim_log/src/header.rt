@@ -89,7 +89,7 @@ pub fn used_bytes(start: &[u8]) -> Result<usize, HeaderFault>
 }
 
 /// What the header of a log says.
-#[derive(Clone, Copy, PartialEq, Eq)]
+#[derive(Clone, Copy)]
 pub struct Header {
     /// The version of the form: 1; 2, whose records have places; or 3, which also has waits for what isn't a mutex.
     pub version: u32,

@@ -12,7 +12,7 @@ use crate::slots::offset_of;
 use std::alloc::{AllocError, Global};
 
 /// The thread of a chunk, as the chunk's head says it.
-#[derive(Clone, Copy, PartialEq, Eq)]
+#[derive(Clone, Copy)]
 pub struct Head {
     /// The kernel's number of the process.
     pub process: u32,

@@ -5,7 +5,7 @@ ghost use Rattle.pim_log.specs.Logs.{began_of};
 use crate::event::Event;
 
 /// What a thread did, or what is known of it.
-#[derive(Clone, Copy, PartialEq, Eq)]
+#[derive(Clone, Copy)]
 pub struct Record {
     /// Its place in the order of all records, from 1 on.
     pub number: u64,

@@ -23,7 +23,7 @@ pub struct Names {
 }
 
 /// A thread that is a task of the trace.
-#[derive(PartialEq, Eq, Drop)]
+#[derive(Drop)]
 pub struct Thread {
     /// The number of the task.
     pub task: u16,

@@ -15,7 +15,7 @@ pub struct Order {
 }
 
 /// A thread asked for a mutex while it owned another.
-#[derive(Clone, Copy, PartialEq, Eq)]
+#[derive(Clone, Copy)]
 pub struct Nesting {
     pub thread: u32,
     pub order: Order,

@@ -7,7 +7,7 @@ use crate::orders::Seen;
 use std::collections::BTreeMap;
 
 /// Two threads took two mutexes in opposite orders, so that they can deadlock.
-#[derive(Clone, Copy, PartialEq, Eq)]
+#[derive(Clone, Copy)]
 pub struct Opposite {
     /// The outer mutex of this has the lower number.
     pub first: Nesting,

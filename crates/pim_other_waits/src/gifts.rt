@@ -9,7 +9,7 @@ use std::alloc::{AllocError, Global};
 use std::collections::HashMap;
 
 /// The last gifts of one thing.
-#[derive(Clone, Copy, PartialEq, Eq)]
+#[derive(Clone, Copy)]
 pub(crate) struct LastGifts {
     last: Gift,
     /// The last one by another thread than that of `last`.

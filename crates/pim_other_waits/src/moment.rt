@@ -3,7 +3,7 @@
 use pim_log::Record;
 
 /// A record and its time. Parts of texts have none.
-#[derive(Clone, Copy, PartialEq, Eq)]
+#[derive(Clone, Copy)]
 pub struct Moment {
     pub record: Record,
     /// CLOCK_MONOTONIC in nanoseconds.

@@ -5,7 +5,7 @@ ghost use Rattle.pim_other_waits.specs.Waits.{turn_of, outcome_by, lasts};
 use pim_log::{Call, Event, Object, Outcome};
 
 /// What a record is to the wait of its thread.
-#[derive(Clone, Copy, PartialEq, Eq)]
+#[derive(Clone, Copy)]
 pub enum Turn {
     /// A wait begins.
     Begin(Object),

@@ -15,7 +15,7 @@ pub struct Awaited {
 }
 
 /// What can end a wait: a post, an unlock, a signal; at a barrier the next thread that comes; the end of a thread.
-#[derive(Clone, Copy, PartialEq, Eq)]
+#[derive(Clone, Copy)]
 pub struct Gift {
     /// The thread that gives.
     pub thread: u32,
@@ -28,7 +28,7 @@ pub struct Gift {
 }
 
 /// How a wait ended.
-#[derive(Clone, Copy, PartialEq, Eq)]
+#[derive(Clone, Copy)]
 pub struct Ending {
     /// The number of the record that says it.
     pub number: u64,
@@ -38,7 +38,7 @@ pub struct Ending {
 }
 
 /// A wait of a real-time thread for what isn't a mutex.
-#[derive(Clone, Copy, PartialEq, Eq)]
+#[derive(Clone, Copy)]
 pub struct OtherWait {
     pub thread: u32,
     /// The level of the thread as it began to wait, 1 to 100.

@@ -3,7 +3,7 @@
 use pim_base::{MutexNo, Prio, TaskNo};
 
 /// What a task did in a recorded program, or what happened to it. The numbers are those of a trace.
-#[derive(Clone, Copy, PartialEq, Eq)]
+#[derive(Clone, Copy)]
 pub enum Observation {
     /// The task owns the mutex, and waits for nothing.
     Granted(TaskNo, MutexNo),

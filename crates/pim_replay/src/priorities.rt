@@ -20,7 +20,7 @@ pub enum Scale {
 }
 
 /// The priorities of a trace by the levels of a log.
-#[derive(Clone, Copy, PartialEq, Eq)]
+#[derive(Clone, Copy)]
 pub struct Priorities {
     pub scale: Scale,
     /// The priority of each level, 0 to 100. A level that the log lacks may share that of another.

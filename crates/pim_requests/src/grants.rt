@@ -15,7 +15,7 @@ use pim_log::{Event, LONGEST_CALL, Log, Record};
 use std::alloc::{AllocError, Global};
 
 /// A grant of a mutex. Its owner may be granted it again.
-#[derive(Clone, Copy, PartialEq, Eq)]
+#[derive(Clone, Copy)]
 pub struct Grant {
     /// The number of its record.
     pub number: u64,

@@ -44,7 +44,7 @@ pub struct Asked {
 }
 
 /// A wait for a mutex that is free in the log as it begins.
-#[derive(Clone, Copy, PartialEq, Eq)]
+#[derive(Clone, Copy)]
 struct Pending {
     request: Request,
     /// When the wait began.
@@ -54,7 +54,7 @@ struct Pending {
 }
 
 /// What is known of where the request of a wait belongs.
-#[derive(Clone, Copy, PartialEq, Eq)]
+#[derive(Clone, Copy)]
 enum Place {
     /// Behind the record with this number.
     Behind(u64),

@@ -8,7 +8,7 @@ use pim_kernel_events::{Recording, Stretch, Track, Tracks};
 use std::alloc::{AllocError, Global};
 
 /// A wait for a mutex, as far as the kernel's events are asked about it.
-#[derive(Clone, Copy, PartialEq, Eq)]
+#[derive(Clone, Copy)]
 pub struct Awaited {
     /// The level of the thread that waited.
     pub level: u8,
@@ -21,7 +21,7 @@ pub struct Awaited {
 }
 
 /// A thread that ran during a wait, on the CPU of the owner, which was ready and didn't run.
-#[derive(Clone, Copy, PartialEq, Eq)]
+#[derive(Clone, Copy)]
 pub struct RanMeanwhile {
     /// The thread, by the kernel's number.
     pub task: u32,

@@ -4,7 +4,7 @@ use crate::search::first_from;
 use pim_kernel_events::{Call, Event, Recording, What};
 
 /// A thread waited for an INHERIT mutex.
-#[derive(Clone, Copy, PartialEq, Eq)]
+#[derive(Clone, Copy)]
 pub struct Wait {
     /// The thread, by the kernel's number.
     pub task: u32,
