@@ -1,3 +1,4 @@
+pub mod Above
 pub mod Covered
 pub mod Ended
 pub mod Naming

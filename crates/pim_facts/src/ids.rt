@@ -1,12 +1,13 @@
 //! Whom each record of a log is about.
-ghost use Rattle.std.specs.Prelude.{◌≡◌, ◌+◌, ◌<◌, ◌≤◌, ◌^◌, IfErr, IfOk, IfSome, length, slice_set};
+ghost use Rattle.std.specs.Prelude.{◌≡◌, ◌+◌, ◌<◌, ◌≤◌, ◌^◌, ℕ, IfErr, IfOk, IfSome, length, slice_set};
 ghost use Rattle.std.specs.Option.{unwrap_or};
 ghost use Rattle.pim_log.specs.Headers.{header_of, end_of};
 ghost use Rattle.pim_log.specs.Logs.{IsLog};
 ghost use Rattle.pim_facts.specs.Covering.{Covers, Grows, HasFewThreads, HasMutex, HasId, HasRead, HasThread};
 ghost use Rattle.pim_facts.specs.Levels.{id_of, first_level};
 ghost use Rattle.pim_facts.specs.Ending.{EndsAt, EndsBelow, later_of};
-ghost use Rattle.pim_facts.specs.Faults.{NamesOneOf, NamesOnly};
+ghost use Rattle.pim_facts.specs.Faults.{IsFirstAbove, NamesOneOf, NamesOnly};
+ghost use Rattle.pim_facts.specs.declared.fault.IdsFault.TheVariants as ids;
 ghost use Rattle.pim_facts.specs.Naming.{HasNamed, Names};
 
 use crate::family::{Family, ceiling_in, family_in};
@@ -96,9 +97,12 @@ impl Ids {
     ///
     /// # Errors
     ///
-    /// Returns `TooManyThreads` if a thread's number is above [`MAX_THREADS`], and `Memory` if out of memory.
+    /// Returns `TooManyThreads` with the number of the first record of a thread with a number above [`MAX_THREADS`], and
+    /// `Memory` if out of memory.
     pub fn of(alloc: Global, log: &Log) -> Result<(Ids, Named), IdsFault>
         ensures fault { IfErr result (NamesOneOf (end_of (header_of log.now))) }
+        ensures above { IsLog log.now → IfErr result (λ fault.
+            (number : ℕ) → fault ≡ ids.TooManyThreads number → IsFirstAbove log.now number) }
         ensures few { IfOk result (λ found. HasFewThreads found.0) }
         ensures covers { IsLog log.now → IfOk result (λ found. Covers found.0 log.now) }
         ensures ended { IsLog log.now → IfOk result (λ found. EndsAt log.now found.0.ended) }
@@ -185,6 +189,8 @@ impl Ids {
         number: u64,
     ) -> Result<(), IdsFault>
         ensures fault { IfErr result (NamesOneOf (end_of (header_of log.now))) }
+        ensures above { IsLog log.now → HasRead log.now number self.old → IfErr result (λ fault.
+            (n : ℕ) → fault ≡ ids.TooManyThreads n → IsFirstAbove log.now n) }
         ensures read { HasRead log.now number self.old → IfOk result (λ _. HasRead log.now (number + 1) self.new) }
         ensures ended { IsLog log.now → EndsBelow number log.now self.old.ended →
             IfOk result (λ _. EndsBelow (number + 1) log.now self.new.ended) }
@@ -209,7 +215,7 @@ impl Ids {
         tasks: &Tasks,
         record: &Record,
     ) -> Result<Option<u32>, IdsFault>
-        ensures fault { IfErr result (NamesOnly «record».now.number) }
+        ensures fault { IfErr result (NamesOnly «record».now.number «record».now.thread) }
         ensures grown { Grows self.old self.new }
         ensures thread { IfOk result (λ _. HasThread self.new «record».now.thread) }
         ensures few { IfOk result (λ _. «record».now.thread ≤ 2 ^ 22) }
@@ -255,7 +261,7 @@ impl Ids {
         tasks: &Tasks,
         record: &Record,
     ) -> Result<Option<u32>, IdsFault>
-        ensures fault { IfErr result (NamesOnly «record».now.number) }
+        ensures fault { IfErr result (NamesOnly «record».now.number «record».now.thread) }
         ensures grown { Grows self.old self.new }
         ensures thread { HasThread self.old «record».now.thread → IfOk result (λ id. IfSome id (HasThread self.new)) }
     {
@@ -287,7 +293,7 @@ impl Ids {
 
     /// Makes room for the thread of a record.
     fn read_thread(&mut self, record: &Record) -> Result<(), IdsFault>
-        ensures fault { IfErr result (NamesOnly «record».now.number) }
+        ensures fault { IfErr result (NamesOnly «record».now.number «record».now.thread) }
         ensures grown { Grows self.old self.new }
         ensures thread { IfOk result (λ _. HasThread self.new «record».now.thread) }
         ensures few { IfOk result (λ _. «record».now.thread ≤ 2 ^ 22) }
@@ -336,7 +342,7 @@ impl Ids {
         pthread: u64,
         priority: Priority,
     ) -> Result<(), IdsFault>
-        ensures fault { IfErr result (NamesOnly «record».now.number) }
+        ensures fault { IfErr result (NamesOnly «record».now.number «record».now.thread) }
         ensures grown { Grows self.old self.new }
     {
         self.keep_level(level_of(priority, 1));

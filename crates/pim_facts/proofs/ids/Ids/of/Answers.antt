@@ -1,5 +1,6 @@
 use Rattle.std.proofs.Common.{ap, ◌∙◌, arith}
 use Rattle.std.proofs.lemmas.Grind.{common_steps}
+use Rattle.std.proofs.lemmas.Result.{err_from_is_err_and}
 use Rattle.pim_log.specs.Headers.{end_of}
 use Rattle.pim_facts.proofs.Covered.{covered}
 use Rattle.pim_facts.proofs.Ended.{ended}
@@ -43,3 +44,10 @@ loop-number-preserved c = (
     c.in_ok-read_record.ensures.named log c.loop-number.invariant.0 (c.loop-number.invariant.1 log).1,
   ),
 )
+
+pub returns-in_err-read_record-clause-above : goal.returns-in_err-read_record-clause-above
+returns-in_err-read_record-clause-above c =
+    let residual = c.from_residual-in_err-read_record in
+    let fault = err_from_is_err_and residual.result residual.ensures.1 in
+    rw (fault.1, fault.2) (λ log number is.
+    c.in_err-read_record.ensures.above log c.loop-number.invariant.0 number is)

@@ -1,4 +1,6 @@
 use Rattle.std.proofs.Common.{ap, ◌∙◌}
+use Rattle.std.proofs.lemmas.Result.{err_from_is_err_and}
+use Rattle.pim_facts.proofs.Above.{first-above}
 use Rattle.pim_facts.proofs.Covered.{later, lacks, reads}
 use Rattle.pim_facts.proofs.Ended as ended
 use Rattle.pim_facts.proofs.Naming as tasks
@@ -30,3 +32,10 @@ pub returns-clause-named : goal.returns-clause-named
 returns-clause-named c log read named =
     tasks.reads c.args.log.now c.args.number c.args.self.now c.args.tasks.now c.read-2.new.self c.in-Some.record log
     c.in-Some.ensures (read.covers log) c.in_ok-read.ensures.begun c.in_ok-read.ensures.named named
+
+pub returns-in_err-id-clause-above : goal.returns-in_err-id-clause-above
+returns-in_err-id-clause-above c =
+    let fault = err_from_is_err_and c.from_residual.result c.from_residual.ensures.1 in
+    rw (fault.1, fault.2) (λ log read n is.
+    first-above c.args.log.now c.args.number c.args.self.now c.in-Some.record c.in_err-id.field-0.0 n c.in-Some.ensures
+    c.in_err-id.ensures.fault log read is)
