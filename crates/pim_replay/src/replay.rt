@@ -8,7 +8,8 @@ ghost use Rattle.pim_base.specs.State.{IsState, IsTask, IsMutex, start, base_of,
 ghost use Rattle.pim_base.specs.Steady.{IsSteady};
 ghost use Rattle.pim_base.specs.Lists.{put};
 ghost use Rattle.pim_base.specs.Steps.{reply_of};
-ghost use Rattle.pim_base.specs.declared.limits.TheConstants.{MAX_TASKS};
+ghost use Rattle.pim_base.specs.declared.limits.TheConstants.{MAX_MUTEXES, MAX_TASKS};
+ghost use Rattle.pim_manager.specs.declared.make_fault.MakeFault.{MakeFault};
 ghost use Rattle.pim_base.specs.declared.lines.Verdict.{Verdict};
 ghost use Rattle.pim_base.specs.declared.steps.Op.{Op};
 ghost use Rattle.pim_base.specs.declared.steps.Wait.{Wait};
@@ -86,6 +87,9 @@ impl Replay {
     ) -> Result<Replay, MakeFault>
         ensures start { IfOk result (λ replay. replay ≡ at_start (start bases.items protocols.items 1)) }
         ensures order { IfOk result (λ replay. IsInOrder replay) }
+        ensures tasks { IsErrOf result MakeFault.TooManyTasks ↔ (MAX_TASKS < length bases.items) }
+        ensures mutexes { IsErrOf result MakeFault.TooManyMutexes ↔
+            ((length bases.items ≤ MAX_TASKS) × (MAX_MUTEXES < length protocols.items)) }
     {
         let manager = Manager::new(alloc, &bases, &protocols)?;
         let waits = vec![in alloc; None; bases.len()]?;

@@ -19,18 +19,17 @@ invariant_of-result c =
       sym (ap (λ (S : State). waits_among S.wait) made ∙ no_waits n),
     )
 
-pub returns : goal.returns
-returns c =
-    let is : _ ≡ at_start (start c.args.bases.items c.args.protocols.items 1) =
-    cc (
-      c.in_ok-manager.ensures.made,
-      c.deref.ensures.value,
-      c.deref-2.ensures.value,
-      c.new-2.ensures.items,
-      c.len.ensures,
-      c.in_ok-waits.ensures.items_if_clones_equal (search rules),
-    ) in
-    record {
-      start = is;
-      order = subst IsInOrder (sym is) (in_order_start (start c.args.bases.items c.args.protocols.items 1) (none_waits _));
-    }
+pub returns-clause-start : goal.returns-clause-start
+returns-clause-start c = cc (
+  c.in_ok-manager.ensures.made,
+  c.deref.ensures.value,
+  c.deref-2.ensures.value,
+  c.new-2.ensures.items,
+  c.len.ensures,
+  c.in_ok-waits.ensures.items_if_clones_equal (search rules),
+)
+
+pub returns-clause-order : goal.returns-clause-order
+returns-clause-order c =
+    let is : _ ≡ at_start (start c.args.bases.items c.args.protocols.items 1) = returns-clause-start c in
+    subst IsInOrder (sym is) (in_order_start (start c.args.bases.items c.args.protocols.items 1) (none_waits _))
