@@ -139,6 +139,39 @@ class Relay(Case):
                                 "mutex 150 inherit 0x7560 700 0x7560", 1 + 152 + 600))
 
 
+def handed(mutex, high, low, detail):
+    """Rows by which a thread releases a mutex that it has, and which another has awaited, to that one."""
+    return [(high, reader.RELEASE, mutex, 0, detail), (low, reader.GRANTED, mutex, 2 * MILLISECOND, detail),
+            (low, reader.RELEASE, mutex, 0, detail)]
+
+
+def many_mutexes():
+    """200 NONE mutexes, one after the other, and then 57 INHERIT ones at one time. Each is waited for."""
+    rows = [*(begun(thread, 10) for thread in range(1, 58)), begun(58, 20), begun(59, 20)]
+    for place in range(200):
+        mutex, low, high = 0x1000 + 32 * place, 1 + place % 57, 58 + place % 2
+        rows += [(high, reader.GRANTED, mutex, 0, NONE), (low, reader.REQUEST, mutex, 700 + high, NONE)]
+        rows += handed(mutex, high, low, NONE)
+    mutexes = {low: 0x5000 + 32 * low for low in range(1, 58)}
+    rows += [(58, reader.GRANTED, mutex, 0, INHERIT) for mutex in mutexes.values()]
+    rows += [(low, reader.REQUEST, mutex, 758, INHERIT) for low, mutex in mutexes.items()]
+    for low, mutex in mutexes.items():
+        rows += handed(mutex, 58, low, INHERIT)
+    return long_log(rows)
+
+
+class ManyMutexes(Case):
+    """The NONE mutexes share number 1, and the INHERIT ones have 2 to 58."""
+
+    def written_otherwise(self):
+        declared = [line for line in self.lines("pim") if line.startswith("mutex ")]
+        named = [line.split()[:3] for line in self.lines("names") if line.startswith("mutex ")]
+        inherit = [str(number) for number in range(2, 59)]
+        wanted = (["mutex 1 none", *(f"mutex {number} inherit" for number in inherit)],
+                  [["mutex", "1", "none"]] * 200 + [["mutex", number, "inherit"] for number in inherit])
+        return difference((declared, named), wanted)
+
+
 def crowd():
     """257 threads take part at one time: one has the mutex, and the others wait for it."""
     rows = [begun(thread, 10) for thread in range(1, 258)] + [(1, reader.GRANTED, 0x500, 0, INHERIT)]
@@ -193,6 +226,8 @@ class Pieces(Case):
 CROWDED = "more than 256 threads contend at one time, or the mutexes need more than 256 numbers\n"
 SHARED = "trace: 300 threads and 150 mutexes of 750 records make 600 steps of 1.050 s; " \
          "priorities as they are, SCHED_OTHER at 1"
+MANY = "trace: 59 threads and 257 mutexes of 1285 records make 1028 steps of 1.344 s; " \
+       "priorities as they are, SCHED_OTHER at 1"
 RANKS = "trace: 0 threads and 0 mutexes of 0 records make 0 steps of 99.000 ms; priorities are ranks"
 
 
@@ -205,6 +240,7 @@ def made():
     """
     return [
         Relay("threads_share_numbers", relay(), findings=f"..\n{SHARED}\nstatus 0\n"),
+        ManyMutexes("mutexes_share_numbers", many_mutexes(), findings=f"..\n{MANY}\nstatus 0\n"),
         Case("more_threads_at_one_time_than_numbers", crowd(), error=CROWDED),
         Case("as_many_levels_as_priorities", levels(30, 60), findings=f"..\n{RANKS}\nstatus 0\n"),
         Case("more_levels_than_priorities", levels(30), error="threads and ceilings have more than 99 priorities\n"),

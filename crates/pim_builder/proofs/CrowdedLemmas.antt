@@ -16,7 +16,7 @@ replaced-apart : (n v x y : ℕ) → x ≢ y → x ≢ v → y ≢ v → replace
 replaced-apart n v x y apart one two = grind (arith, nat_tests)
 
 -- n numbers and one more that are all different aren't all below n
-pigeonhole : (n : ℕ) (f : ℕ → ℕ) (more : ℕ) → ((a : ℕ) → a < n → f a < n) → more < n →
+pub pigeonhole : (n : ℕ) (f : ℕ → ℕ) (more : ℕ) → ((a : ℕ) → a < n → f a < n) → more < n →
     ((a b : ℕ) → a < b → b < n → f a ≢ f b) → ((a : ℕ) → a < n → f a ≢ more) → ⊥
 pigeonhole zero f more below less apart other = omega arith
 pigeonhole (suc n) f more below less apart other =

@@ -10,3 +10,6 @@ pub mod Doing
 pub mod Justifying
 pub mod Listing
 pub mod Giving
+pub mod Leading
+pub mod Many
+pub mod Spanning

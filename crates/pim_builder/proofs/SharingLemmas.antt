@@ -1,11 +1,11 @@
 -- What is known of the numbers of the first spans, and that it stays so when one more gets a number.
-use Rattle.std.proofs.Common.{◌≡◌, ◌≢◌, ℕ, ◌+◌, ◌<◌, ◌≤◌, ◌-◌, List, length, get_or, set, replicate, sym, ◌∙◌, ap}
+use Rattle.std.proofs.Common.{◌≡◌, ◌≢◌, ℕ, ◌+◌, ◌<◌, ◌≤◌, ◌-◌, List, length, get_or, set, take, replicate, sym, ◌∙◌, ap}
 use Rattle.std.proofs.Common.{subst, inl, inr, arith, get_or-set_other, length-set}
 use Rattle.std.proofs.lemmas.Bool.{cases_eq}
 use Rattle.std.proofs.lemmas.Grind.{get_or-set_at}
-use Rattle.std.proofs.lemmas.List.{length-replicate}
+use Rattle.std.proofs.lemmas.List.{get_or-take, length-replicate, length-take-le}
 use Rattle.pim_builder.specs.declared.span.Span.{Span}
-use Rattle.pim_builder.specs.Sharing.{span_at, AreInTurn, AreShared, IsCrowded}
+use Rattle.pim_builder.specs.Sharing.{span_at, AreInTurn, AreNeeded, AreShared, IsCrowded}
 
 -- the first spans have numbers, and each number in use has the latest of its spans
 pub record IsSharing (spans : List Span) (limit end used : ℕ) (latest numbers : List ℕ) : Type 0 where
@@ -18,6 +18,7 @@ pub record IsSharing (spans : List Span) (limit end used : ℕ) (latest numbers 
   pub named : (n : ℕ) → n < used → (get_or latest n 0 < end) × (get_or numbers (get_or latest n 0) 0 ≡ n)
   pub apart : (j k : ℕ) → j < k → k < end → get_or numbers j 0 ≡ get_or numbers k 0 → (span_at spans j).last < (span_at spans k).first
   pub turn : (k n : ℕ) → k < end → n < get_or numbers k 0 → (j : ℕ) × (j < k) × (get_or numbers j 0 ≡ n)
+  pub needed : (k : ℕ) → k < end → IsCrowded spans (get_or numbers k 0) k
 
 -- a number may be given to a span: it is the first one that isn't in use, or its latest span has ended
 pub record IsFree (spans : List Span) (limit end used : ℕ) (latest : List ℕ) (m : ℕ) : Type 0 where
@@ -26,6 +27,7 @@ pub record IsFree (spans : List Span) (limit end used : ℕ) (latest : List ℕ)
   pub allowed : m < limit
   pub near : m ≤ used
   pub ended : m < used → (span_at spans (get_or latest m 0)).last < (span_at spans end).first
+  pub lasting : (n : ℕ) → n < m → (span_at spans end).first ≤ (span_at spans (get_or latest n 0)).last
 
 -- the earlier spans begin no later
 earlier-order : (spans : List Span) (end j : ℕ) →
@@ -150,6 +152,44 @@ turn-next latest numbers end m used inside near named turn k n h lower = elim (c
       (earlier.0, earlier.1, get_or-set_other numbers end earlier.0 m 0 other ∙ earlier.2)
 ]
 
+-- for each number as many earlier ones last as there are lower ones, as before
+needed-next : (spans : List Span) (numbers : List ℕ) (end m : ℕ) → end < length numbers →
+    ((k : ℕ) → k < end → IsCrowded spans (get_or numbers k 0) k) → IsCrowded spans m end →
+    (k : ℕ) → k < end + 1 → IsCrowded spans (get_or (set numbers end m) k 0) k
+needed-next spans numbers end m inside needed own k h = elim (cases_eq k end) [
+  | inl same ↦
+      subst (λ n. IsCrowded spans n k) (sym (get_or-set_at numbers end k m 0 same inside))
+      (subst (λ j. IsCrowded spans m j) (sym same) own)
+  | inr other ↦
+      subst (λ n. IsCrowded spans n k) (sym (get_or-set_other numbers end k m 0 other)) (needed k (omega arith))
+]
+
+-- where the numbers below one are in use and none of them is free, their latest spans last
+pub crowded : (spans : List Span) (limit end used m : ℕ) (latest numbers : List ℕ) →
+    IsSharing spans limit end used latest numbers → end < length spans → m ≤ used →
+    (0 < end → (span_at spans (end - 1)).first ≤ (span_at spans end).first) →
+    ((n : ℕ) → n < m → (span_at spans end).first ≤ (span_at spans (get_or latest n 0)).last) →
+    IsCrowded spans m end
+crowded spans limit end used m latest numbers s inside near order lasting =
+    let at = λ (a : ℕ) (h : a < m). get_or-take m latest a 0 h in
+    record {
+      inside = inside;
+      these = take m latest;
+      count = length-take-le m latest (omega (arith, s.few, s.room));
+      others = λ a b lt h same.
+          let first : a < m = omega arith in
+          let e : a ≡ b =
+          sym (s.named a (omega arith)).1 ∙ ap (λ k. get_or numbers k 0) (sym (at a first) ∙ same ∙ at b h)
+          ∙ (s.named b (omega arith)).1 in
+          omega arith;
+      earlier = λ a h. omega (arith, at a h, (s.named a (omega arith)).0);
+      begun = λ a h.
+          subst (λ k. (span_at spans k).first ≤ (span_at spans end).first) (sym (at a h))
+          (earlier-order spans end (get_or latest a 0) s.ordered order (s.named a (omega arith)).0);
+      lasting = λ a h.
+          subst (λ k. (span_at spans end).first ≤ (span_at spans k).last) (sym (at a h)) (lasting a h);
+    }
+
 -- no span has a number yet
 pub sharing-none : (spans : List Span) (limit n : ℕ) (latest numbers : List ℕ) →
     numbers ≡ replicate n 0 → n ≡ length spans → latest ≡ replicate limit 0 → IsSharing spans limit 0 0 latest numbers
@@ -163,6 +203,7 @@ sharing-none spans limit n latest numbers zeros all rooms = record {
   named = λ n h. let none : ⊥ = omega arith in absurd none;
   apart = λ j k lt h same. let none : ⊥ = omega arith in absurd none;
   turn = λ k n h lower. let none : ⊥ = omega arith in absurd none;
+  needed = λ k h. let none : ⊥ = omega arith in absurd none;
 }
 
 -- each span has a number
@@ -184,6 +225,11 @@ sharing-turn spans limit end used latest numbers s all i n h lower =
     let inside : i < end = omega (arith, s.each) in
     s.turn i n inside lower
 
+-- for each number as many earlier ones last as there are lower ones
+pub sharing-needed : (spans : List Span) (limit end used : ℕ) (latest numbers : List ℕ) →
+    IsSharing spans limit end used latest numbers → end ≡ length spans → AreNeeded spans numbers
+sharing-needed spans limit end used latest numbers s all i h = s.needed i (omega arith)
+
 -- one more span gets a number
 pub sharing-next : (spans : List Span) (limit end used more m : ℕ) (latest numbers : List ℕ) →
     IsSharing spans limit end used latest numbers → IsFree spans limit end used latest m →
@@ -202,26 +248,6 @@ sharing-next spans limit end used more m latest numbers s f le own most grown =
       named = named-next latest numbers end m used more inside room grown s.named;
       apart = apart-next spans numbers end m inside s.apart (earlier-ended spans limit end used m latest numbers s f);
       turn = turn-next latest numbers end m used inside f.near s.named s.turn;
+      needed = needed-next spans numbers end m inside s.needed
+          (crowded spans limit end used m latest numbers s f.inside f.near f.order f.lasting);
     }
-
--- where all numbers are in use and none is free, the latest spans are as many as there are numbers
-pub crowded : (spans : List Span) (limit end used : ℕ) (latest numbers : List ℕ) →
-    IsSharing spans limit end used latest numbers → end < length spans → limit ≤ used →
-    (0 < end → (span_at spans (end - 1)).first ≤ (span_at spans end).first) →
-    ((n : ℕ) → n < limit → (span_at spans end).first ≤ (span_at spans (get_or latest n 0)).last) →
-    IsCrowded spans limit end
-crowded spans limit end used latest numbers s inside full order lasting = record {
-  inside = inside;
-  these = latest;
-  count = s.room;
-  others = λ a b lt h same.
-      let first : a < used = omega arith in
-      let second : b < used = omega arith in
-      let e : a ≡ b = sym (s.named a first).1 ∙ ap (λ k. get_or numbers k 0) same ∙ (s.named b second).1 in
-      omega arith;
-  earlier = λ a h. let in_use : a < used = omega arith in (s.named a in_use).0;
-  begun = λ a h.
-      let in_use : a < used = omega arith in
-      earlier-order spans end (get_or latest a 0) s.ordered order (s.named a in_use).0;
-  lasting = lasting;
-}

@@ -35,6 +35,10 @@ pub record IsCrowded (spans : List Span) (limit i : ℕ) : Type 0 where
   pub begun : (a : ℕ) → a < limit → (span_at spans (slice_index these a)).first ≤ (span_at spans i).first
   pub lasting : (a : ℕ) → a < limit → (span_at spans i).first ≤ (span_at spans (slice_index these a)).last
 
+-- no lower number would do: when a span begins, as many earlier ones last as there are lower numbers
+abbrev pub AreNeeded : List Span → List ℕ → Type 0
+AreNeeded spans numbers = (i : ℕ) → i < length spans → IsCrowded spans (slice_index numbers i) i
+
 -- no choice of numbers would do
 abbrev pub CannotShare : List Span → ℕ → Type 0
 CannotShare spans limit = (numbers : List ℕ) → AreShared spans limit numbers → ⊥

@@ -1,15 +1,16 @@
 //! Numbers that spans share.
 ghost use Rattle.std.specs.Prelude.{◌≡◌, ◌<◌, ◌≤◌, ◌-◌, ℕ, length, slice_index, IfOk, MatchResult};
 ghost use Rattle.std.specs.Bool.{MatchBool};
-ghost use Rattle.pim_builder.specs.Sharing.{span_at, AreInTurn, AreShared, IsFault, IsOutOfOrder};
+ghost use Rattle.pim_builder.specs.Sharing.{span_at, AreInTurn, AreNeeded, AreShared, IsFault, IsOutOfOrder};
 
 use crate::fault::SharingFault;
 use crate::span::Span;
 use std::alloc::Global;
 
 /// Returns a number below the limit for each span. Spans with the same number follow each other: one ends before the
-/// next begins. The spans must be in the order in which they begin. A number is given only once the lower ones are, and
-/// found by at most `limit` comparisons. Allocates a table of the spans and one of the numbers.
+/// next begins. The spans must be in the order in which they begin. A number is given only where all lower ones are those
+/// of earlier spans that last, and found by at most `limit` comparisons. Allocates a table of the spans and one of the
+/// numbers.
 ///
 /// # Errors
 ///
@@ -19,6 +20,7 @@ use std::alloc::Global;
 pub fn share(alloc: Global, spans: &[Span], limit: usize) -> Result<Vec<usize>, SharingFault>
     ensures numbers { MatchResult result (λ numbers. AreShared spans.now limit numbers.items) (IsFault spans.now limit) }
     ensures turn { IfOk result (λ numbers. AreInTurn numbers.items) }
+    ensures needed { IfOk result (λ numbers. AreNeeded spans.now numbers.items) }
 {
     let mut numbers = vec![in alloc; 0; spans.len()]?;
     // The last span so far with each number, and how many numbers are in use.

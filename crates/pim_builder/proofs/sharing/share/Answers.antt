@@ -1,5 +1,6 @@
 use Rattle.std.proofs.Common.{rules, arith, ◌<◌, ◌≤◌}
-use Rattle.pim_builder.proofs.SharingLemmas.{IsFree, sharing-none, sharing-next, sharing-all, sharing-turn, crowded}
+use Rattle.pim_builder.proofs.SharingLemmas.{IsFree, crowded, sharing-all, sharing-needed, sharing-next, sharing-none}
+use Rattle.pim_builder.proofs.SharingLemmas.{sharing-turn}
 use Rattle.pim_builder.proofs.CrowdedLemmas.{crowded-cannot}
 use Rattle.pim_builder.proofs.sharing.share.Goals as goal
 
@@ -19,6 +20,7 @@ loop-span-preserved c =
       allowed = allowed;
       near = near;
       ended = λ h. rw c.deref.ensures.value at (c.free_number-number.ensures.free h);
+      lasting = λ n h. rw c.deref.ensures.value at (c.free_number-number.ensures.lasting n h);
     } in
     sharing-next c.args.spans.now c.args.limit c.loop-span.span c.loop-span.used c.max-used.result number
     c.loop-span.latest.items c.loop-span.numbers.items c.loop-span.invariant free
@@ -26,8 +28,10 @@ loop-span-preserved c =
 
 pub returns-then-number-limit-clause-numbers : goal.returns-then-number-limit-clause-numbers
 returns-then-number-limit-clause-numbers c =
-    let some = crowded c.args.spans.now c.args.limit c.loop-span.span _ _ _ c.loop-span.invariant (omega arith) (omega arith)
-    c.if-is_out_of_order.ensures (λ n h. rw c.deref.ensures.value at (c.free_number-number.ensures.lasting n (omega arith))) in
+    let some =
+    crowded c.args.spans.now c.args.limit c.loop-span.span _ c.args.limit _ _ c.loop-span.invariant (omega arith)
+    (omega arith) c.if-is_out_of_order.ensures
+    (λ n h. rw c.deref.ensures.value at (c.free_number-number.ensures.lasting n (omega arith))) in
     (some, crowded-cannot _ _ _ some)
 
 pub returns-clause-numbers : goal.returns-clause-numbers
@@ -35,3 +39,6 @@ returns-clause-numbers c = sharing-all _ _ _ _ _ _ c.loop-span.invariant (omega 
 
 pub returns-clause-turn : goal.returns-clause-turn
 returns-clause-turn c = sharing-turn _ _ _ _ _ _ c.loop-span.invariant (omega arith)
+
+pub returns-clause-needed : goal.returns-clause-needed
+returns-clause-needed c = sharing-needed _ _ _ _ _ _ c.loop-span.invariant (omega arith)
