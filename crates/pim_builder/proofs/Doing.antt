@@ -15,12 +15,13 @@ use Rattle.pim_base.specs.Steps.{after}
 use Rattle.pim_base.specs.declared.steps.Entry.{Entry}
 use Rattle.pim_base.specs.declared.steps.Protocol.{Protocol}
 use Rattle.pim_base.specs.declared.steps.Wait.{Wait}
-use Rattle.pim_base.proofs.HandOvers.{protocol-hand_over}
+use Rattle.pim_base.proofs.HandOvers.{base-hand_over, protocol-hand_over}
 use Rattle.pim_base.proofs.Kept.{IsKeptBySteps, kept_by_step}
 use Rattle.pim_base.proofs.Places.{length-put, nth-put_other, nth-put_same, nth_within}
 use Rattle.pim_base.proofs.Stored.{from_holds}
 use Rattle.pim_replay.specs.Possible.{CanDo, MayOwnNext, NoneIsRecursive}
-use Rattle.pim_replay.specs.Replays.{IsInOrder, IsSame, Program, ReplayState, StaysTheSame, awaited, given, mutex_of, observed}
+use Rattle.pim_replay.specs.Replays.{Continues, IsInOrder, IsSame, Program, ReplayState, StaysTheSame}
+use Rattle.pim_replay.specs.Replays.{awaited, given, mutex_of, observed}
 use Rattle.pim_replay.specs.Replays.{program_of, waiting_for}
 use Rattle.pim_replay.specs.declared.observation.Observation.{Observation}
 use Rattle.pim_replay.specs.declared.observation.Observation.TheVariants.{Base, Ceiling, GaveUp, Granted, Released, Waits}
@@ -96,6 +97,49 @@ plain_same r s before now same plain =
     plain_back s.start s.entries s.state now
     (λ m. ap (λ (ps : List Protocol). is_recursive (unwrap_or (nth ps m) Protocol.None)) same.protocol
     ∙ plain_on r.start r.entries r.state before plain m)
+
+-- ---- how many tasks and mutexes
+
+-- there are this many
+abbrev HasCounts : ℕ → ℕ → State → Type 0
+HasCounts tasks mutexes S = (length S.base ≡ tasks) × (length S.protocol ≡ mutexes)
+
+counts_stay : (tasks mutexes : ℕ) → IsKeptBySteps (HasCounts tasks mutexes)
+counts_stay tasks mutexes = record {
+  grant = λ S a m ok idle. ok;
+  lock_again = λ S a m ok again few. ok;
+  keep = λ S m ok kept. ok;
+  enqueue = λ S a m ok task idle open' owned. ok;
+  hand = λ S m ok. (ap (λ ps. length ps) (base-hand_over S m) ∙ ok.0, ap (λ ps. length ps) (protocol-hand_over S m) ∙ ok.1);
+  withdraw = λ S t ok. ok;
+  set_base = λ S t p ok. (length-put S.base t p ∙ ok.0, ok.1);
+  set_ceiling = λ S m c ok protect. (ok.0, length-put S.protocol m (Protocol.Protect c) ∙ ok.1);
+}
+
+run_counts :
+    (S : State) (es : List Entry) (end : State)
+    → IsRun S es end
+    → HasCounts (length S.base) (length S.protocol) end
+run_counts S [] end run = (ap (λ (T : State). length T.base) run, ap (λ (T : State). length T.protocol) run)
+run_counts S (e ∷ es) end run =
+    let Same : State → Type 0 = HasCounts (length S.base) (length S.protocol) in
+    let step = kept_by_step Same (counts_stay (length S.base) (length S.protocol)) S e.step (refl, refl) in
+    let rest = run_counts (after S e.step) es end run.1 in
+    (rest.0 ∙ step.0, rest.1 ∙ step.1)
+
+-- as many as before, where steps were made
+pub counts_on :
+    (r s : ReplayState)
+    → IsRun r.start r.entries r.state
+    → IsRun s.start s.entries s.state
+    → Continues r s
+    → HasCounts (length r.state.base) (length r.state.protocol) s.state
+counts_on r s before now on =
+    let one = run_counts r.start r.entries r.state before in
+    let other = run_counts s.start s.entries s.state now in (
+      other.0 ∙ (ap (λ (S : State). length S.base) on.0 ∙ sym one.0),
+      other.1 ∙ (ap (λ (S : State). length S.protocol) on.0 ∙ sym one.1),
+    )
 
 -- ---- whose base is above a ceiling
 

@@ -1,12 +1,12 @@
 -- What changes in a trace, at most, while a thread and a mutex take their numbers, and a fact is made.
 use Rattle.std.proofs.Common.{◌≡◌, ◌≢◌, ◌≤◌, ◌⊎◌, ◌∙◌, refl, sym, ap, subst, inl, inr, arith, ℕ, List, Option, Some, None}
-use Rattle.std.proofs.Common.{Bool, true, false, cond, unwrap_or, length, IfSome}
+use Rattle.std.proofs.Common.{Bool, true, false, cond, unwrap_or, length, IfSome, IsSome, IsTrue}
 use Rattle.std.proofs.lemmas.Bool.{cases_eq, eq-eqb}
 use Rattle.std.proofs.lemmas.Option.{IfSome_then, none-some, same_Some}
 use Rattle.std.specs.Option.{option_and_then}
 use Rattle.pim_base.specs.Lists.{nth, put, holds}
 use Rattle.pim_base.specs.declared.steps.Protocol.{Protocol}
-use Rattle.pim_base.proofs.Places.{nth-put_other}
+use Rattle.pim_base.proofs.Places.{nth-put_other, nth-put_same, nth_within}
 use Rattle.pim_facts.specs.Shown.{mutex_of}
 use Rattle.pim_facts.specs.declared.fact.Fact.{Fact}
 use Rattle.pim_facts.specs.declared.fact.What.{What}
@@ -38,6 +38,44 @@ held_is holders one o number here is has =
     go : (b : Bool) → cond b (Some number) None ≡ Some here → number ≡ here
     go true e = same_Some number here e
     go false e = absurd (none-some here e)
+
+-- a number that is held is one of those in the list
+pub number_held :
+    (holders : List (Option ℕ)) (number one : ℕ)
+    → IsTrue (holds (holder_in holders number) one)
+    → (1 ≤ number) × (number ≤ length holders)
+number_held holders number one is_held = go (nth holders number) refl is_held
+  where
+    go :
+        (o : Option (Option ℕ))
+        → nth holders number ≡ o
+        → IsTrue (holds (unwrap_or o None) one)
+        → (1 ≤ number) × (number ≤ length holders)
+    go None is held = absurd (cc held)
+    go (Some x) is held = nth_within holders number x is
+
+-- whoever takes a number that is one of those in the list has it
+pub number_taken :
+    (holders late : List (Option ℕ)) (one number : ℕ) (o : Option ℕ)
+    → Some number ≡ o
+    → IsSome (nth holders number)
+    → late ≡ put holders number (Some one)
+    → None ≡ held late one o
+    → ⊥
+number_taken holders late one number o is there taken none =
+    let within = go (nth holders number) refl there in
+    none-some number (
+    none
+    ∙ ap (held late one) (sym is)
+    ∙ ap (λ hs. held hs one (Some number)) taken
+    ∙ ap (λ o. cond (holds (unwrap_or o None) one) (Some number) None)
+    (nth-put_same holders number (Some one) within.0 within.1)
+    ∙ ap (λ b. cond b (Some number) None) (eq-eqb one one refl)
+    )
+  where
+    go : (o : Option (Option ℕ)) → nth holders number ≡ o → IsSome o → (1 ≤ number) × (number ≤ length holders)
+    go None is has = absurd (cc has)
+    go (Some x) is has = nth_within holders number x is
 
 -- ---- a thread
 

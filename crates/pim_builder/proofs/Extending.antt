@@ -1,24 +1,27 @@
 -- A trace that shows facts, as it goes on.
 use Rattle.std.proofs.Common.{◌≡◌, ◌∙◌, refl, sym, ap, ap₂, subst, inl, inr, ℕ, ◌≤◌, List, [], ◌∷◌, ◌++◌, All, Option, Some}
+use Rattle.std.proofs.Common.{◌-◌, IsSome, MatchOption, None, is_some}
 use Rattle.std.proofs.Common.{Bool, true, false, IsTrue, append_assoc, length, arith}
-use Rattle.std.proofs.lemmas.List.{append-nil}
+use Rattle.std.proofs.lemmas.List.{append-nil, length-replicate}
 use Rattle.std.proofs.lemmas.List.Elements.{All-append, All-cons, All-nil, All-weaker}
-use Rattle.pim_base.specs.Lists.{put}
+use Rattle.std.specs.Vec.{vec_len}
+use Rattle.pim_base.proofs.Places.{length-put, nth-get_or}
+use Rattle.pim_base.specs.Lists.{nth, put}
 use Rattle.pim_facts.specs.declared.fact.Fact.{Fact}
 use Rattle.pim_replay.specs.Priorities.{priority_of}
 use Rattle.pim_builder.specs.declared.piece.Piece.{Piece}
 use Rattle.pim_replay.specs.Replays.{IsInOrder, ReplayState}
 use Rattle.pim_builder.specs.Frames.{AllJoinBy, KeepsOthers}
-use Rattle.pim_builder.specs.Views.{program_at, view_of}
+use Rattle.pim_builder.specs.Views.{BuilderState, program_at, view_of}
 use Rattle.pim_builder.specs.Pieces.{AllJoinAt, Point, GoesOn, EndWith, HasTimes, steps_of}
-use Rattle.pim_builder.specs.Showing.{Joins, JoinsQueueBy, ShowsWhat, SetsNone, Shows}
+use Rattle.pim_builder.specs.Refusing.{NumberedLaw}
+use Rattle.pim_builder.specs.Showing.{HoldsOf, Joins, JoinsQueueBy, ShowsWhat, SetsNone, Shows}
 use Rattle.pim_builder.specs.Views.{number_in, held, task_now, mutex_now}
 use Rattle.pim_builder.specs.Shown.{as_thread, as_mutex, given_to, taken_by, holders_after, nobody, threads_after}
 use Rattle.pim_builder.specs.Shown.{mutexes_after, Dated, Stage, AppearsBetween, LeadsTo}
 use Rattle.pim_builder.specs.Shown.{IsShownAt, AreShownBy, AreShownIn, stage_of, view_at, HasHolders, AreShown, Extends}
 use Rattle.pim_builder.specs.declared.builder.Appearance.{Appearance}
 use Rattle.pim_builder.specs.declared.builder.Context.{Context}
-use Rattle.pim_builder.specs.declared.builder.TraceBuilder.{TraceBuilder}
 use Rattle.pim_builder.specs.declared.builder.Who.{Who}
 use Rattle.pim_builder.specs.declared.builder.Who.TheVariants.{Thread, Mutex}
 use Rattle.pim_builder.specs.declared.numbering.Numbers.{Numbers}
@@ -32,6 +35,48 @@ holders_one_more :
     → holders_after numbers one_of holders (es ++ a ∷ []) ≡ taken_by numbers (holders_after numbers one_of holders es) (one_of a.who)
 holders_one_more numbers one_of holders [] a = refl
 holders_one_more numbers one_of holders (b ∷ es) a = holders_one_more numbers one_of (taken_by numbers holders (one_of b.who)) es a
+
+-- as many have numbers, whoever takes one
+length_given :
+    (holders : List (Option ℕ)) (one : ℕ) (number : Option ℕ)
+    → length (given_to holders one number) ≡ length holders
+length_given holders one None = refl
+length_given holders one (Some k) = length-put holders k (Some one)
+
+length_taken :
+    (numbers : Numbers) (holders : List (Option ℕ)) (one : Option ℕ)
+    → length (taken_by numbers holders one) ≡ length holders
+length_taken numbers holders None = refl
+length_taken numbers holders (Some one) = length_given holders one (number_in numbers one)
+
+length_after :
+    (numbers : Numbers) (one_of : Who → Option ℕ) (holders : List (Option ℕ)) (es : List Appearance)
+    → length (holders_after numbers one_of holders es) ≡ length holders
+length_after numbers one_of holders [] = refl
+length_after numbers one_of holders (a ∷ es) =
+    length_after numbers one_of (taken_by numbers holders (one_of a.who)) es
+    ∙ length_taken numbers holders (one_of a.who)
+
+-- a thread with a number that somebody has first can have it
+pub numbered : NumberedLaw
+numbered context b t h has = go (number_in numbers t) has
+  where
+    numbers : Numbers
+    numbers = context.numbering.now.threads
+
+    many : length b.threads ≡ vec_len numbers.firsts
+    many =
+        ap (λ hs. length hs) h.threads
+        ∙ length_after numbers as_thread (nobody numbers) b.appearances
+        ∙ length-replicate (vec_len numbers.firsts) None
+
+    go :
+        (o : Option ℕ)
+        → MatchOption o ⊥ (λ k. (1 ≤ k) × (k ≤ vec_len numbers.firsts))
+        → HoldsOf (λ k. IsSome (nth b.threads k)) o
+    go None none = none
+    go (Some k) within =
+        ap is_some (nth-get_or b.threads k (k - 1) None (omega (arith, within.0)) (omega (arith, within.0, within.1, many)))
 
 -- ---- from stage to stage
 
@@ -58,8 +103,11 @@ leads_trans time s t u a b =
           (λ one between. record { from = omega (arith, between.from, first); upto = between.upto }) b.further b.between);
     }
 
+pub extends_refl : (context : Context) (time : ℕ) (a : BuilderState) → Extends context time a a
+extends_refl context time a = record { leads = leads_refl time (stage_of a); holders = λ h. h }
+
 pub extends_trans :
-    (context : Context) (time : ℕ) (a b c : TraceBuilder)
+    (context : Context) (time : ℕ) (a b c : BuilderState)
     → Extends context time a b
     → Extends context time b c
     → Extends context time a c
@@ -70,30 +118,22 @@ extends_trans context time a b c e f = record {
 
 -- further steps, and nobody appears
 pub extends_steps :
-    (context : Context) (time : ℕ) (a : TraceBuilder) (p : Point)
+    (context : Context) (time : ℕ) (a : BuilderState) (p : Point)
     → GoesOn time a.pieces p
     → Extends context time a (record a { pieces = p })
 extends_steps context time a p on = record {
   leads = record {
     point = on;
     further = [];
-    appeared = sym (append-nil a.appearances.items);
+    appeared = sym (append-nil a.appearances);
     between = All-nil (AppearsBetween a.pieces p);
   };
   holders = λ h. record { threads = h.threads; mutexes = h.mutexes };
 }
 
--- a piece may end, and then there are further steps
-pub cut_and_on :
-    (context : Context) (time : ℕ) (a : TraceBuilder) (p q : Point)
-    → GoesOn time a.pieces p
-    → GoesOn time p q
-    → Extends context time a (record a { pieces = q })
-cut_and_on context time a p q cut on = extends_steps context time a q (goes_on_trans time a.pieces p q cut on)
-
--- and then the trace goes on
+-- a piece may end, and then the trace goes on
 pub cut_and_extended :
-    (context : Context) (time : ℕ) (a : TraceBuilder) (p : Point) (b : TraceBuilder)
+    (context : Context) (time : ℕ) (a : BuilderState) (p : Point) (b : BuilderState)
     → GoesOn time a.pieces p
     → Extends context time (record a { pieces = p }) b
     → Extends context time a b
@@ -102,7 +142,7 @@ cut_and_extended context time a p b cut on =
 
 -- two appear, and then further steps
 pub acted :
-    (context : Context) (time : ℕ) (a b c : TraceBuilder) (p : Point)
+    (context : Context) (time : ℕ) (a b c : BuilderState) (p : Point)
     → Extends context time a b
     → Extends context time b c
     → GoesOn time c.pieces p
@@ -113,7 +153,7 @@ acted context time a b c p first second on =
 
 -- all who join a queue since then join it since before these appeared
 pub joined_acted :
-    (context : Context) (time : ℕ) (a b c : TraceBuilder) (p : Point) (n : ℕ)
+    (context : Context) (time : ℕ) (a b c : BuilderState) (p : Point) (n : ℕ)
     → Extends context time a b
     → Extends context time b c
     → AllJoinAt c.pieces p n
@@ -124,10 +164,10 @@ joined_acted context time a b c p n first second =
 
 -- one appears before the next step
 one_appears :
-    (time : ℕ) (a b : TraceBuilder) (it : Appearance)
+    (time : ℕ) (a b : BuilderState) (it : Appearance)
     → it.step ≡ steps_of a.pieces
     → b.pieces ≡ a.pieces
-    → b.appearances.items ≡ a.appearances.items ++ it ∷ []
+    → b.appearances ≡ a.appearances ++ it ∷ []
     → LeadsTo time (stage_of a) (stage_of b)
 one_appears time a b it now same more = record {
   point = subst (GoesOn time a.pieces) (sym same) (goes_on_refl time a.pieces);
@@ -141,13 +181,13 @@ one_appears time a b it now same more = record {
 
 -- a thread appears and takes its number
 pub thread_appears :
-    (context : Context) (time : ℕ) (a b : TraceBuilder) (step t k : ℕ)
+    (context : Context) (time : ℕ) (a b : BuilderState) (step t k : ℕ)
     → number_in context.numbering.now.threads t ≡ Some k
     → step ≡ steps_of a.pieces
     → b.pieces ≡ a.pieces
-    → b.appearances.items ≡ a.appearances.items ++ record { step = step; who = Thread t } ∷ []
-    → b.threads.items ≡ put a.threads.items k (Some t)
-    → b.mutexes.items ≡ a.mutexes.items
+    → b.appearances ≡ a.appearances ++ record { step = step; who = Thread t } ∷ []
+    → b.threads ≡ put a.threads k (Some t)
+    → b.mutexes ≡ a.mutexes
     → Extends context time a b
 thread_appears context time a b step t k number now same more threads mutexes =
     let it : Appearance = record { step = step; who = Thread t } in
@@ -158,27 +198,27 @@ thread_appears context time a b step t k number now same more threads mutexes =
             let numbers = context.numbering.now.threads in
             threads
             ∙ ap (λ hs. put hs k (Some t)) h.threads
-            ∙ ap (given_to (threads_after context a.appearances.items) t) (sym number)
-            ∙ sym (holders_one_more numbers as_thread (nobody numbers) a.appearances.items it)
+            ∙ ap (given_to (threads_after context a.appearances) t) (sym number)
+            ∙ sym (holders_one_more numbers as_thread (nobody numbers) a.appearances it)
             ∙ ap (threads_after context) (sym more);
         mutexes =
             let numbers = context.numbering.now.mutexes in
             mutexes
             ∙ h.mutexes
-            ∙ sym (holders_one_more numbers as_mutex (nobody numbers) a.appearances.items it)
+            ∙ sym (holders_one_more numbers as_mutex (nobody numbers) a.appearances it)
             ∙ ap (mutexes_after context) (sym more);
       };
     }
 
 -- a mutex appears and takes its number
 pub mutex_appears :
-    (context : Context) (time : ℕ) (a b : TraceBuilder) (step m n : ℕ)
+    (context : Context) (time : ℕ) (a b : BuilderState) (step m n : ℕ)
     → number_in context.numbering.now.mutexes m ≡ Some n
     → step ≡ steps_of a.pieces
     → b.pieces ≡ a.pieces
-    → b.appearances.items ≡ a.appearances.items ++ record { step = step; who = Mutex m } ∷ []
-    → b.mutexes.items ≡ put a.mutexes.items n (Some m)
-    → b.threads.items ≡ a.threads.items
+    → b.appearances ≡ a.appearances ++ record { step = step; who = Mutex m } ∷ []
+    → b.mutexes ≡ put a.mutexes n (Some m)
+    → b.threads ≡ a.threads
     → Extends context time a b
 mutex_appears context time a b step m n number now same more mutexes threads =
     let it : Appearance = record { step = step; who = Mutex m } in
@@ -189,14 +229,14 @@ mutex_appears context time a b step m n number now same more mutexes threads =
             let numbers = context.numbering.now.mutexes in
             mutexes
             ∙ ap (λ hs. put hs n (Some m)) h.mutexes
-            ∙ ap (given_to (mutexes_after context a.appearances.items) m) (sym number)
-            ∙ sym (holders_one_more numbers as_mutex (nobody numbers) a.appearances.items it)
+            ∙ ap (given_to (mutexes_after context a.appearances) m) (sym number)
+            ∙ sym (holders_one_more numbers as_mutex (nobody numbers) a.appearances it)
             ∙ ap (mutexes_after context) (sym more);
         threads =
             let numbers = context.numbering.now.threads in
             threads
             ∙ h.threads
-            ∙ sym (holders_one_more numbers as_thread (nobody numbers) a.appearances.items it)
+            ∙ sym (holders_one_more numbers as_thread (nobody numbers) a.appearances it)
             ∙ ap (threads_after context) (sym more);
       };
     }
@@ -205,22 +245,22 @@ mutex_appears context time a b step m n number now same more mutexes threads =
 
 -- what holds of those who have the numbers holds of those who appeared last with them
 by_holders :
-    (context : Context) (b : TraceBuilder)
+    (context : Context) (b : BuilderState)
     → HasHolders context b
     → (P : List (Option ℕ) → List (Option ℕ) → Type 0)
-    → P b.threads.items b.mutexes.items
-    → P (threads_after context b.appearances.items) (mutexes_after context b.appearances.items)
+    → P b.threads b.mutexes
+    → P (threads_after context b.appearances) (mutexes_after context b.appearances)
 by_holders context b h P holds =
-    subst (λ ms. P (threads_after context b.appearances.items) ms) h.mutexes (subst (λ ts. P ts b.mutexes.items) h.threads holds)
+    subst (λ ms. P (threads_after context b.appearances) ms) h.mutexes (subst (λ ts. P ts b.mutexes) h.threads holds)
 
-shown_now : (context : Context) (b : TraceBuilder) (fact : Fact) → HasHolders context b → Shows context b fact → IsShownAt context fact (stage_of b)
+shown_now : (context : Context) (b : BuilderState) (fact : Fact) → HasHolders context b → Shows context b fact → IsShownAt context fact (stage_of b)
 shown_now context b fact h shows = inl (by_holders context b h (λ ts ms.
     ShowsWhat b.pieces.piece.replay (priority_of context.priorities.now)
     (λ t. held ts t (number_in context.numbering.now.threads t))
     (λ m. held ms m (number_in context.numbering.now.mutexes m)) fact.what fact.thread) shows)
 
 unset_now :
-    (context : Context) (b : TraceBuilder) (fact : Fact)
+    (context : Context) (b : BuilderState) (fact : Fact)
     → HasHolders context b
     → SetsNone (task_now context b) (mutex_now context b) fact.what fact.thread
     → IsShownAt context fact (stage_of b)
@@ -239,12 +279,12 @@ ordered_by context [] now begin = begin.order
 ordered_by context (latest ∷ facts) now shown = shown.6
 
 -- who has the numbers is who appeared last with them
-view_by : (context : Context) (b : TraceBuilder) → HasHolders context b → view_of b ≡ view_at context (stage_of b)
+view_by : (context : Context) (b : BuilderState) → HasHolders context b → view_of b ≡ view_at context (stage_of b)
 view_by context b h = ap₂ (λ ts ms. record { threads = ts; mutexes = ms; program = program_at b.pieces }) h.threads h.mutexes
 
 -- one fact more
 pub shown_more :
-    (context : Context) (fact : Fact) (time : ℕ) (a b : TraceBuilder) (is_used : Bool)
+    (context : Context) (fact : Fact) (time : ℕ) (a b : BuilderState) (is_used : Bool)
     → Extends context time a b
     → (IsTrue is_used → Shows context b fact)
     → (is_used ≡ false → SetsNone (task_now context b) (mutex_now context b) fact.what fact.thread)
@@ -281,21 +321,21 @@ shown_more context fact time a b is_used extends shows unset keeps joins given f
 
 -- a trace that ended shows what it showed
 pub shown_in_end :
-    (context : Context) (facts : List Dated) (b : TraceBuilder) (pieces : List Piece)
+    (context : Context) (facts : List Dated) (b : BuilderState) (pieces : List Piece)
     → EndWith b.pieces pieces
     → AreShown context facts b
-    → AreShownIn context facts pieces b.appearances.items
+    → AreShownIn context facts pieces b.appearances
 shown_in_end context facts b pieces end shown = (b.pieces, end, shown.shown)
 
 -- a trace at its begin
 pub shown_at_begin :
-    (context : Context) (b : TraceBuilder) (replay : ReplayState)
+    (context : Context) (b : BuilderState) (replay : ReplayState)
     → b.pieces ≡ record { before = []; piece = record { replay = replay; times = []; restoring = 0 } }
     → replay.entries ≡ []
     → IsInOrder replay
-    → b.appearances.items ≡ []
-    → b.threads.items ≡ nobody context.numbering.now.threads
-    → b.mutexes.items ≡ nobody context.numbering.now.mutexes
+    → b.appearances ≡ []
+    → b.threads ≡ nobody context.numbering.now.threads
+    → b.mutexes ≡ nobody context.numbering.now.mutexes
     → AreShown context [] b
 shown_at_begin context b replay begin steps order none threads mutexes = record {
   holders = record {

@@ -7,6 +7,7 @@ pub mod Extending
 pub mod Framing
 pub mod Entering
 pub mod Doing
+pub mod Making
 pub mod Justifying
 pub mod Listing
 pub mod Giving

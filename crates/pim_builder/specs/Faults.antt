@@ -3,20 +3,20 @@ use Rattle.std.specs.Prelude.{◌≡◌, ℕ, ◌≤◌, ◌<◌}
 use Rattle.pim_builder.specs.declared.fault.ImportFault.{ImportFault}
 use Rattle.pim_builder.specs.declared.fault.ImportFault.TheVariants.{Contradiction, TooManyThreads, Crowded, TooManyPriorities, Memory}
 
--- the fault names this record, or memory ran out
+-- this record contradicts those before it, or memory ran out
 abbrev pub NamesOnly : ℕ → ImportFault → Type 0
 NamesOnly number (Contradiction n) = n ≡ number
-NamesOnly number (TooManyThreads n) = n ≡ number
+NamesOnly number (TooManyThreads n) = ⊥
 NamesOnly number Crowded = ⊥
 NamesOnly number TooManyPriorities = ⊥
 NamesOnly number Memory = Unit {0}
 
--- the fault names no record
+-- too many take part, or memory ran out: the fault names no record
 abbrev pub NamesNone : ImportFault → Type 0
 NamesNone (Contradiction n) = ⊥
 NamesNone (TooManyThreads n) = ⊥
 NamesNone Crowded = Unit {0}
-NamesNone TooManyPriorities = Unit {0}
+NamesNone TooManyPriorities = ⊥
 NamesNone Memory = Unit {0}
 
 -- a record that the fault names has a number of the log, whose numbers are below its end

@@ -53,6 +53,12 @@ pub record IsIn (point : Point) (pieces : List Piece) : Type 0 where
 abbrev pub Reaches : Point → Point → Type 0
 Reaches p q = ((q.before ≡ p.before) × IsContinued p.piece q.piece) ⊎ IsIn p q.before
 
+-- there are as many tasks at one point as at another, and as many mutexes
+abbrev pub HasAsMany : Point → Point → Type 0
+HasAsMany p q =
+    (length q.piece.replay.state.base ≡ length p.piece.replay.state.base)
+    × (length q.piece.replay.state.protocol ≡ length p.piece.replay.state.protocol)
+
 -- a piece has room for 1,024 steps more, as many as a fact may make
 abbrev pub HasRoom : Piece → Type 0
 HasRoom piece = length piece.replay.entries + 1024 ≤ MAX_STEPS

@@ -16,11 +16,12 @@ use Rattle.pim_replay.specs.declared.observation.Observation.{Observation}
 use Rattle.pim_replay.specs.declared.observation.Observation.TheVariants as observation
 use Rattle.pim_replay.specs.Replays.{Has, ReplayState, awaited, program_of}
 use Rattle.pim_builder.specs.Frames.{OnlyEntersMutex, OnlyEntersThread}
+use Rattle.pim_builder.specs.Numbered.{HasNumber}
 use Rattle.pim_builder.specs.Pieces.{GoesOn}
 use Rattle.pim_builder.specs.Showing.{HasBase, HasCeiling, HoldsOf}
-use Rattle.pim_builder.specs.Views.{View, mutex_now, number_in, replay_now, task_now, view_of}
+use Rattle.pim_builder.specs.Shown.{HasHolders}
+use Rattle.pim_builder.specs.Views.{BuilderState, View, mutex_now, number_in, replay_now, task_now, view_of}
 use Rattle.pim_builder.specs.declared.builder.Context.{Context}
-use Rattle.pim_builder.specs.declared.builder.TraceBuilder.{TraceBuilder}
 use Rattle.pim_builder.specs.declared.participants.Participant.{Participant}
 
 -- mutex n is free, and task k may have it: it is in no queue, and its base isn't above the ceiling, unless it waits for n
@@ -38,10 +39,6 @@ CanShow r (GaveUp m) k n = Unit {0}
 CanShow r (Released m next) k n = owner_of r.state n ≡ Some k
 CanShow r (Level level) k n = ⊥
 CanShow r (Ceiling m level) k n = ⊥
-
--- the manager can set the base of task k
-abbrev pub CanSetBase : ReplayState → ℕ → Type 0
-CanSetBase r k = IsTask r.state k
 
 -- the manager can set the ceiling of mutex n: it has one, and there is a task that sets it
 abbrev pub CanSetCeiling : ReplayState → ℕ → Type 0
@@ -75,17 +72,15 @@ pub record IsAbove (r : ReplayState) (asked : Option ℕ) (mutex k level limit :
   pub ceiling : ceiling (protocol_of r.state mutex) ≡ Some limit
   pub lower : limit < level
 
--- a thread has a number in the trace, and the manager has such a task
-abbrev pub HasTask : Context → TraceBuilder → ℕ → Type 0
-HasTask context builder t =
-    HoldsOf (λ k. IsTask (replay_now builder).state k × IsSome (nth builder.threads.items k))
-    (number_in context.numbering.now.threads t)
+-- a thread has a number in the trace
+abbrev pub HasTask : Context → BuilderState → ℕ → Type 0
+HasTask context builder t = HoldsOf (λ k. IsSome (nth builder.threads k)) (number_in context.numbering.now.threads t)
 
--- a mutex of the log has a number in the trace, and the manager has such a mutex, with a ceiling if it is a PROTECT one
-abbrev pub HasMutex : Context → TraceBuilder → ℕ → Type 0
+-- a mutex of the log has a number in the trace, and the mutex with that number a ceiling, if it is a PROTECT one
+abbrev pub HasMutex : Context → BuilderState → ℕ → Type 0
 HasMutex context builder m =
     HoldsOf
-    (λ n. IsMutex (replay_now builder).state n × IsSome (nth builder.mutexes.items n)
+    (λ n. IsSome (nth builder.mutexes n)
     × (family_in context.sources.now m ≡ Family.Protect → IsSome (ceiling (protocol_of (replay_now builder).state n))))
     (number_in context.numbering.now.mutexes m)
 
@@ -103,7 +98,7 @@ first_ceiling context m = priority_of context.priorities.now (level_in context.p
 -- A thread and a mutex of the log appear and have their numbers, and nothing else happens to the program: nothing at all
 -- if both had appeared. A thread that appears has its first base. A PROTECT mutex that appears has its first ceiling. If
 -- another mutex appears, no protocol changes.
-pub record Appear (context : Context) (time t m : ℕ) (old new : TraceBuilder) : Type 0 where
+pub record Appear (context : Context) (time t m : ℕ) (old new : BuilderState) : Type 0 where
   pub on : GoesOn time old.pieces new.pieces
   pub between : View
   pub thread : OnlyEntersThread context t (view_of old) between
@@ -122,25 +117,30 @@ pub record Appear (context : Context) (time t m : ℕ) (old new : TraceBuilder) 
       nth (replay_now new).state.protocol n ≡ nth (replay_now old).state.protocol n
 
 -- once they have appeared, the manager can't do what the fact says of them
-abbrev pub IsImpossibleThen : Context → ℕ → Fact → ℕ → TraceBuilder → Type 0
+abbrev pub IsImpossibleThen : Context → ℕ → Fact → ℕ → BuilderState → Type 0
 IsImpossibleThen context time fact m old =
-    (new : TraceBuilder) × Appear context time fact.thread m old new
+    (new : BuilderState) × Appear context time fact.thread m old new
     × ¬ HoldsOf (λ k. HoldsOf (CanShow (replay_now new) fact.what k) (mutex_now context new m))
     (task_now context new fact.thread)
 
--- the thread has no number that is a task's, or the mutex none that is such a mutex's, or the manager can't do what the
--- fact says of them
-abbrev pub CannotAct : Context → ℕ → Fact → ℕ → TraceBuilder → Type 0
+-- the thread has no number, or the mutex none that is such a mutex's, or the manager can't do what the fact says of them
+abbrev pub CannotAct : Context → ℕ → Fact → ℕ → BuilderState → Type 0
 CannotAct context time fact m old =
     ¬ HasTask context old fact.thread ⊎ (¬ HasMutex context old m ⊎ IsImpossibleThen context time fact m old)
 
--- why the trace can't show that this happened to a thread: at this time, by what it showed before
-abbrev pub CannotShow : Context → ℕ → What → Fact → TraceBuilder → Type 0
+-- why the trace can't show that this happened to a thread: at this time, by what it showed before; a level can always be set
+abbrev pub CannotShow : Context → ℕ → What → Fact → BuilderState → Type 0
 CannotShow context time (Granted m) fact old = CannotAct context time fact m old
 CannotShow context time (Waits m) fact old = CannotAct context time fact m old
 CannotShow context time (GaveUp m) fact old = CannotAct context time fact m old
 CannotShow context time (Released m next) fact old = CannotAct context time fact m old
-CannotShow context time (Level level) fact old =
-    HoldsOf (λ k. ¬ CanSetBase (replay_now old) k) (task_now context old fact.thread)
+CannotShow context time (Level level) fact old = ⊥
 CannotShow context time (Ceiling m level) fact old =
     HoldsOf (λ n. ¬ CanSetCeiling (replay_now old) n) (mutex_now context old m)
+
+-- where each number is held by the one who appeared last with it, a thread has a number if it has one of those that
+-- somebody has first
+abbrev pub NumberedLaw : Type 0
+NumberedLaw =
+    (context : Context) (builder : BuilderState) (t : ℕ) → HasHolders context builder →
+    HasNumber context.numbering.now.threads t → HasTask context builder t

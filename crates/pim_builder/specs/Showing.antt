@@ -8,9 +8,8 @@ use Rattle.pim_facts.specs.declared.fact.What.{What}
 use Rattle.pim_facts.specs.declared.fact.What.TheVariants.{Granted, Waits, GaveUp, Released, Level, Ceiling}
 use Rattle.pim_replay.specs.Priorities.{priority_of}
 use Rattle.pim_replay.specs.Replays.{ReplayState, Has, IsQueuedIfItMay, program_of, awaited}
-use Rattle.pim_builder.specs.Views.{mutex_now, task_now}
+use Rattle.pim_builder.specs.Views.{BuilderState, mutex_now, task_now}
 use Rattle.pim_builder.specs.declared.builder.Context.{Context}
-use Rattle.pim_builder.specs.declared.builder.TraceBuilder.{TraceBuilder}
 
 -- there is a number, and this holds of it
 abbrev pub HoldsOf : (ℕ → Type 0) → Option ℕ → Type 0
@@ -44,13 +43,13 @@ JoinsQueueBy r tasks mutexes what t =
     (m : ℕ) → what ≡ Waits m → HoldsOf (λ k. HoldsOf (IsQueuedIfItMay r k) (mutexes m)) (tasks t)
 
 -- the trace shows a fact, of those that its thread and its mutex are now
-abbrev pub Shows : Context → TraceBuilder → Fact → Type 0
+abbrev pub Shows : Context → BuilderState → Fact → Type 0
 Shows context builder fact =
     ShowsWhat builder.pieces.piece.replay (priority_of context.priorities.now) (task_now context builder)
     (mutex_now context builder) fact.what fact.thread
 
 -- whoever begins to wait by a fact is in the queue now, if it may
-abbrev pub Joins : Context → TraceBuilder → Fact → Type 0
+abbrev pub Joins : Context → BuilderState → Fact → Type 0
 Joins context builder fact =
     JoinsQueueBy builder.pieces.piece.replay (task_now context builder) (mutex_now context builder) fact.what fact.thread
 
@@ -75,11 +74,11 @@ SetsNone tasks mutexes (Level level) t = tasks t ≡ None
 -- no two threads have one number at a time
 abbrev pub TaskLaw : Type 0
 TaskLaw =
-    (context : Context) (builder : TraceBuilder) (t u k : ℕ) → task_now context builder t ≡ Some k →
+    (context : Context) (builder : BuilderState) (t u k : ℕ) → task_now context builder t ≡ Some k →
     task_now context builder u ≡ Some k → t ≡ u
 
 -- nor do two mutexes
 abbrev pub MutexLaw : Type 0
 MutexLaw =
-    (context : Context) (builder : TraceBuilder) (m l n : ℕ) → mutex_now context builder m ≡ Some n →
+    (context : Context) (builder : BuilderState) (m l n : ℕ) → mutex_now context builder m ≡ Some n →
     mutex_now context builder l ≡ Some n → m ≡ l

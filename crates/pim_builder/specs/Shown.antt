@@ -9,10 +9,9 @@ use Rattle.pim_replay.specs.Replays.{IsInOrder}
 use Rattle.pim_builder.specs.Frames.{AllJoinBy, KeepsOthers}
 use Rattle.pim_builder.specs.Pieces.{Point, GoesOn, EndWith, HasTimes, steps_of}
 use Rattle.pim_builder.specs.Showing.{JoinsQueueBy, ShowsWhat, SetsNone}
-use Rattle.pim_builder.specs.Views.{View, mutex_in, number_in, program_at, task_in}
+use Rattle.pim_builder.specs.Views.{BuilderState, View, mutex_in, number_in, program_at, task_in}
 use Rattle.pim_builder.specs.declared.builder.Appearance.{Appearance}
 use Rattle.pim_builder.specs.declared.builder.Context.{Context}
-use Rattle.pim_builder.specs.declared.builder.TraceBuilder.{TraceBuilder}
 use Rattle.pim_builder.specs.declared.builder.Who.{Who}
 use Rattle.pim_builder.specs.declared.builder.Who.TheVariants.{Thread, Mutex}
 use Rattle.pim_builder.specs.declared.numbering.Numbers.{Numbers}
@@ -127,20 +126,20 @@ AreShownIn context facts pieces appearances =
     (end : Point) × EndWith end pieces × AreShownBy context facts (record { point = end; appeared = appearances })
 
 -- the stage of the trace that is being made
-abbrev pub stage_of : TraceBuilder → Stage
-stage_of builder = record { point = builder.pieces; appeared = builder.appearances.items }
+abbrev pub stage_of : BuilderState → Stage
+stage_of builder = record { point = builder.pieces; appeared = builder.appearances }
 
 -- each number is held by the one who appeared last of those that have it
-pub record HasHolders (context : Context) (builder : TraceBuilder) : Type 0 where
-  pub threads : builder.threads.items ≡ threads_after context builder.appearances.items
-  pub mutexes : builder.mutexes.items ≡ mutexes_after context builder.appearances.items
+pub record HasHolders (context : Context) (builder : BuilderState) : Type 0 where
+  pub threads : builder.threads ≡ threads_after context builder.appearances
+  pub mutexes : builder.mutexes ≡ mutexes_after context builder.appearances
 
 -- the trace that is being made shows the facts, the latest first
-pub record AreShown (context : Context) (facts : List Dated) (builder : TraceBuilder) : Type 0 where
+pub record AreShown (context : Context) (facts : List Dated) (builder : BuilderState) : Type 0 where
   pub holders : HasHolders context builder
   pub shown : AreShownBy context facts (stage_of builder)
 
 -- the trace goes on by steps at this time, and who appears takes its number
-pub record Extends (context : Context) (time : ℕ) (old new : TraceBuilder) : Type 0 where
+pub record Extends (context : Context) (time : ℕ) (old new : BuilderState) : Type 0 where
   pub leads : LeadsTo time (stage_of old) (stage_of new)
   pub holders : HasHolders context old → HasHolders context new

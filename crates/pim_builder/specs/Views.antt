@@ -3,8 +3,8 @@ use Rattle.std.specs.Prelude.{ℕ, List, Option, None, Some, if◌then◌else◌
 use Rattle.pim_base.specs.Lists.{nth, holds}
 use Rattle.pim_replay.specs.Replays.{Program, ReplayState, program_of}
 use Rattle.pim_builder.specs.Pieces.{Point}
+use Rattle.pim_builder.specs.declared.builder.Appearance.{Appearance}
 use Rattle.pim_builder.specs.declared.builder.Context.{Context}
-use Rattle.pim_builder.specs.declared.builder.TraceBuilder.{TraceBuilder}
 use Rattle.pim_builder.specs.declared.numbering.Numbers.{Numbers}
 
 -- the number in the trace of a thread or a mutex of the log, if it takes part
@@ -37,21 +37,28 @@ task_in context view t = held view.threads t (number_in context.numbering.now.th
 abbrev pub mutex_in : Context → View → ℕ → Option ℕ
 mutex_in context view m = held view.mutexes m (number_in context.numbering.now.mutexes m)
 
+-- the trace as it is made: who has each task and each mutex, the point that it has come to, and who has appeared in it
+pub record BuilderState : Type 0 where
+  pub threads : List (Option ℕ)
+  pub mutexes : List (Option ℕ)
+  pub pieces : Point
+  pub appearances : List Appearance
+
 -- what the trace that is being made has now
-abbrev pub view_of : TraceBuilder → View
+abbrev pub view_of : BuilderState → View
 view_of builder = record {
-  threads = builder.threads.items;
-  mutexes = builder.mutexes.items;
+  threads = builder.threads;
+  mutexes = builder.mutexes;
   program = program_at builder.pieces;
 }
 
 -- the replay of the piece that is being made
-abbrev pub replay_now : TraceBuilder → ReplayState
+abbrev pub replay_now : BuilderState → ReplayState
 replay_now builder = builder.pieces.piece.replay
 
 -- the task that a thread is now, and the number that a mutex of the log has
-abbrev pub task_now : Context → TraceBuilder → ℕ → Option ℕ
+abbrev pub task_now : Context → BuilderState → ℕ → Option ℕ
 task_now context builder = task_in context (view_of builder)
 
-abbrev pub mutex_now : Context → TraceBuilder → ℕ → Option ℕ
+abbrev pub mutex_now : Context → BuilderState → ℕ → Option ℕ
 mutex_now context builder = mutex_in context (view_of builder)

@@ -1,13 +1,13 @@
 //! The steps that go before and after those of a fact, so that the model allows it.
 ghost use Rattle.std.specs.Prelude.{◌≡◌, ◌≢◌, ℕ, false, IfErr, IfNone, IfOk, IfSome, None, Some};
 ghost use Rattle.pim_base.specs.Checks.{above_ceiling};
-ghost use Rattle.pim_base.specs.State.{wait_of};
+ghost use Rattle.pim_base.specs.State.{IsMutex, IsTask, wait_of};
 ghost use Rattle.pim_replay.specs.Replays.{IsGiven, IsInOrder, IsSame, awaited, awaits, observed};
 ghost use Rattle.pim_replay.specs.declared.observation.Observation.TheVariants as observation;
 ghost use Rattle.pim_builder.specs.Faults.{IsContradiction, NamesOnly};
 ghost use Rattle.pim_builder.specs.Frames.{ChangesBy, HasNothing, IsUnused, OnlyClears, OnlyFrees, OnlyLeaves};
-ghost use Rattle.pim_builder.specs.Pieces.{AllJoinAt, GoesOn};
-ghost use Rattle.pim_builder.specs.Refusing.{CanGrant, CanSetBase, CanSetCeiling, Grants, IsAbove};
+ghost use Rattle.pim_builder.specs.Pieces.{AllJoinAt, GoesOn, HasAsMany};
+ghost use Rattle.pim_builder.specs.Refusing.{CanGrant, CanSetCeiling, Grants, IsAbove};
 ghost use Rattle.pim_builder.specs.Showing.{HasBase, HasCeiling};
 ghost use Rattle.pim_builder.specs.Views.{program_at};
 
@@ -29,10 +29,11 @@ impl Pieces {
         ensures only { IfOk result (λ _.
             ChangesBy (observation.Base task prio) (program_at self.old) (program_at self.new)) }
         ensures on { IfOk result (λ _. GoesOn now.now.time self.old self.new) }
+        ensures counts { HasAsMany self.old self.new }
         ensures fault { IfErr result (NamesOnly now.now.number) }
-        ensures possible { IsInOrder self.old.piece.replay → CanSetBase self.old.piece.replay task →
+        ensures possible { IsInOrder self.old.piece.replay → IsTask self.old.piece.replay.state task →
             IfErr result (λ fault. ¬ IsContradiction fault) }
-        ensures set { CanSetBase self.old.piece.replay task →
+        ensures set { IsTask self.old.piece.replay.state task →
             IfOk result (λ _. HasBase self.new.piece.replay prio task) }
     {
         if self.replay().manager().base(task) == Some(prio) {
@@ -52,10 +53,11 @@ impl Pieces {
         ensures only { IfOk result (λ _.
             ChangesBy (observation.Ceiling mutex ceiling) (program_at self.old) (program_at self.new)) }
         ensures on { IfOk result (λ _. GoesOn now.now.time self.old self.new) }
+        ensures counts { HasAsMany self.old self.new }
         ensures fault { IfErr result (NamesOnly now.now.number) }
         ensures possible { IsInOrder self.old.piece.replay → CanSetCeiling self.old.piece.replay mutex →
             IfErr result (λ fault. ¬ IsContradiction fault) }
-        ensures set { CanSetCeiling self.old.piece.replay mutex →
+        ensures set { IsMutex self.old.piece.replay.state mutex →
             IfOk result (λ _. HasCeiling self.new.piece.replay ceiling mutex) }
     {
         if self.replay().manager().protocol(mutex) == Some(Protocol::Protect(ceiling)) {
@@ -80,6 +82,7 @@ impl Pieces {
             ChangesBy observation.now (program_at self.old) (program_at self.new)) }
         ensures given { IfOk result (λ _. (n : ℕ) → IsGiven observation.now n → AllJoinAt self.old self.new n) }
         ensures on { IfOk result (λ _. GoesOn now.now.time self.old self.new) }
+        ensures counts { HasAsMany self.old self.new }
         ensures fault { IfErr result (NamesOnly now.now.number) }
         ensures possible { IsInOrder self.old.piece.replay → Grants observation.now task.now mutex →
             CanGrant self.old.piece.replay observation.now →
@@ -124,6 +127,7 @@ impl Pieces {
         ensures left { IfOk result (λ _. HasNothing task (program_at self.new)) }
         ensures frees { IfOk result (λ _. OnlyFrees (program_at self.old) (program_at self.new)) }
         ensures on { IfOk result (λ _. GoesOn now.now.time self.old self.new) }
+        ensures counts { HasAsMany self.old self.new }
         ensures fault { IfErr result (NamesOnly now.now.number) }
         ensures possible { IsInOrder self.old.piece.replay → IfErr result (λ fault. ¬ IsContradiction fault) }
     {
@@ -141,6 +145,7 @@ impl Pieces {
             HasNothing task (program_at self.new)) }
         ensures frees { IfOk result (λ _. OnlyFrees (program_at self.old) (program_at self.new)) }
         ensures on { IfOk result (λ _. GoesOn now.now.time self.old self.new) }
+        ensures counts { HasAsMany self.old self.new }
         ensures fault { IfErr result (NamesOnly now.now.number) }
         ensures possible { IsInOrder self.old.piece.replay → IfErr result (λ fault. ¬ IsContradiction fault) }
     {
@@ -162,6 +167,7 @@ impl Pieces {
         ensures cleared { IfOk result (λ _. IsUnused mutex (program_at self.new)) }
         ensures frees { IfOk result (λ _. OnlyFrees (program_at self.old) (program_at self.new)) }
         ensures on { IfOk result (λ _. GoesOn now.now.time self.old self.new) }
+        ensures counts { HasAsMany self.old self.new }
         ensures fault { IfErr result (NamesOnly now.now.number) }
         ensures possible { IsInOrder self.old.piece.replay → IfErr result (λ fault. ¬ IsContradiction fault) }
     {
@@ -178,6 +184,7 @@ impl Pieces {
         ensures ended { IfOk result (λ _. (k : ℕ) → awaits (program_at self.new) k ≢ Some mutex) }
         ensures frees { IfOk result (λ _. OnlyFrees (program_at self.old) (program_at self.new)) }
         ensures on { IfOk result (λ _. GoesOn now.now.time self.old self.new) }
+        ensures counts { HasAsMany self.old self.new }
         ensures fault { IfErr result (NamesOnly now.now.number) }
         ensures possible { IsInOrder self.old.piece.replay → IfErr result (λ fault. ¬ IsContradiction fault) }
     {

@@ -1,11 +1,14 @@
 //! The trace as it is made: who has which number at a time, and the steps of facts.
-ghost use Rattle.std.specs.Prelude.{IfOk, IfErr, IsSome, IsTrue, ◌≡◌, ◌⊎◌, ◌↔◌, All, ℕ, List, [], ◌∷◌};
+ghost use Rattle.std.specs.Prelude.{IfOk, IfErr, IfSome, IsSome, IsTrue, ◌≡◌, All, ℕ, List, [], ◌∷◌, ◌≤◌, length, vec_len};
 ghost use Rattle.std.specs.Prelude.{None, Some, false};
 ghost use Rattle.std.specs.Option.{option_and_then};
 ghost use Rattle.pim_base.specs.Lists.{holds};
 ghost use Rattle.pim_base.specs.Lists as lists;
-ghost use Rattle.pim_base.specs.State.{IsTask, is_recursive};
+ghost use Rattle.pim_base.specs.State.{IsMutex, IsTask, is_recursive};
 ghost use Rattle.pim_facts.specs.Shown.{mutex_of};
+ghost use Rattle.pim_base.specs.declared.limits.TheConstants.{MAX_MUTEXES, MAX_TASKS};
+ghost use Rattle.pim_builder.specs.declared.fault.ImportFault.TheVariants as import;
+ghost use Rattle.pim_builder.specs.Numbered.{HasRoomFor};
 ghost use Rattle.pim_builder.specs.Faults.{IsContradiction, NamesNone, NamesOnly};
 ghost use Rattle.pim_replay.specs.Possible.{NoneIsRecursive};
 ghost use Rattle.pim_replay.specs.Replays.{IsInOrder};
@@ -20,11 +23,10 @@ ghost use Rattle.pim_builder.specs.Views.{holder_in, mutex_now, number_in, repla
 ghost use Rattle.pim_builder.specs.Shown.{AreShown, AreShownIn, Dated, Extends};
 
 use crate::fault::ImportFault;
-use crate::numbering::Numbering;
+use crate::numbering::{Numbering, is_same};
 use crate::participants::{Participant, Participants};
 use crate::piece::Piece;
 use crate::pieces::Pieces;
-use crate::showing::{has_base, has_ceiling, is_awaited, is_done_waiting, is_granted, is_released};
 use pim_base::{MutexNo, Prio, Protocol, TaskNo, nth};
 use pim_course::{Sources, family_of};
 use pim_facts::lists::push;
@@ -32,6 +34,7 @@ use pim_facts::{Fact, Family, What};
 use pim_manager::MakeFault;
 use pim_replay::{Observation, Priorities, Replay};
 use std::alloc::{AllocError, Global};
+use std::marker::Model;
 
 /// A thread or a mutex of the log.
 #[derive(Clone, Copy)]
@@ -50,6 +53,9 @@ pub struct Appearance {
 }
 
 /// The trace as it is made.
+///
+/// In contracts it is who has each task and each mutex, the point that the trace has come to, and who has appeared in it. The
+/// type keeps that the manager has as many tasks and mutexes.
 #[derive(Drop)]
 pub struct TraceBuilder {
     /// By task the thread that has its number now.
@@ -60,6 +66,23 @@ pub struct TraceBuilder {
     appearances: Vec<Appearance>,
 }
 
+impl Model for TraceBuilder {
+    ghost use Rattle.std.specs.Prelude.{◌≡◌, length};
+    ghost use Rattle.pim_builder.specs.Views.{BuilderState};
+
+    ghost Value = { BuilderState };
+
+    ghost view = { λ b. record {
+      threads = b.threads.items;
+      mutexes = b.mutexes.items;
+      pieces = b.pieces;
+      appearances = b.appearances.items;
+    } };
+
+    ghost invariant = { λ b. (length b.threads.items ≡ length b.pieces.piece.replay.state.base)
+        × (length b.mutexes.items ≡ length b.pieces.piece.replay.state.protocol) };
+}
+
 impl TraceBuilder {
     /// Returns the trace at its begin. Each number is that of the first who has it.
     ///
@@ -68,6 +91,7 @@ impl TraceBuilder {
     /// Returns `Memory` if out of memory.
     pub fn new(alloc: Global, context: &Context) -> Result<TraceBuilder, ImportFault>
         ensures shown { IfOk result (λ builder. AreShown context.now [] builder) }
+        ensures memory { HasRoomFor context.now.numbering.now → IfErr result (λ fault. fault ≡ import.Memory) }
         ensures fault { IfErr result NamesNone }
     {
         let bases = bases_of(alloc, context)?;
@@ -95,7 +119,7 @@ impl TraceBuilder {
         ensures end { IfOk result (λ made. EndWith self.pieces made.0.items) }
         ensures shown { IfOk result (λ made. (context : Context) (facts : List Dated) → AreShown context facts self →
             AreShownIn context facts made.0.items made.1.items) }
-        ensures fault { IfErr result NamesNone }
+        ensures fault { IfErr result (λ fault. fault ≡ import.Memory) }
     {
         let pieces = self.pieces.end()?;
         Ok((pieces, self.appearances))
@@ -106,7 +130,7 @@ impl TraceBuilder {
     /// then.
     ///
     /// If it is, the trace shows it, behind all that it showed before: who owns and who waits, the
-    /// priority or the ceiling is looked up after the steps, which takes a few lookups.
+    /// priority or the ceiling.
     ///
     /// Behind the steps nothing is other than before but those whom the fact is about, those whose numbers
     /// go to its thread or its mutex, what that task owned, and who waited for that mutex. A task that begins to wait is
@@ -136,34 +160,9 @@ impl TraceBuilder {
             IfErr result (λ fault. IsContradiction fault →
             CannotShow context.now now.now.time fact.now.what fact.now self.old) }
     {
+        self.pieces.cut(now)?;
         let is_used = self.make(context, fact, now)?;
-        if is_used && !self.shows(context, fact) {
-            return Err(ImportFault::Contradiction(now.number));
-        }
         Ok(is_used)
-    }
-
-    /// Returns whether the trace shows a fact.
-    fn shows(&self, context: &Context, fact: &Fact) -> bool
-        ensures { IsTrue result ↔ Shows context.now self.now fact.now }
-    {
-        let task = self.task_of(context, fact.thread);
-        let priorities = context.priorities;
-        let replay = self.pieces.replay();
-        match fact.what {
-            What::Granted(mutex) => is_granted(replay, task, self.mutex_of(context, mutex)),
-            What::Waits(mutex) => is_awaited(replay, task, self.mutex_of(context, mutex)),
-            What::GaveUp(_) => is_done_waiting(replay, task),
-            What::Released { mutex, next } => {
-                let next = self.next_task(context, next);
-                is_released(replay, next, self.mutex_of(context, mutex))
-            }
-            What::Level(level) => has_base(replay, task, priorities.of_level(level)),
-            What::Ceiling { mutex, level } => {
-                let ceiling = priorities.of_level(level);
-                has_ceiling(replay, self.mutex_of(context, mutex), ceiling)
-            }
-        }
     }
 
     /// Makes the steps of a fact, and returns whether it is in the trace.
@@ -171,6 +170,7 @@ impl TraceBuilder {
         ensures unused { IfOk result (λ is_used. is_used ≡ false → IsSetting fact.now.what) }
         ensures unset { IfOk result (λ is_used. is_used ≡ false → SetsNone (task_now context.now self.new)
             (mutex_now context.now self.new) fact.now.what fact.now.thread) }
+        ensures shows { IfOk result (λ is_used. IsTrue is_used → Shows context.now self.new fact.now) }
         ensures others { IfOk result (λ _.
             KeepsOthers context.now fact.now (view_of self.old) (view_of self.new)) }
         ensures queued { IfOk result (λ _. Joins context.now self.new fact.now) }
@@ -178,13 +178,9 @@ impl TraceBuilder {
             (mutex_now context.now self.new) fact.now.what fact.now.thread) }
         ensures on { IfOk result (λ _. Extends context.now now.now.time self.old self.new) }
         ensures fault { IfErr result (NamesOnly now.now.number) }
-        ensures fits { HasRoom self.old.pieces.piece → IfOk result (λ is_used. IsTrue is_used →
-            CannotShow context.now now.now.time fact.now.what fact.now self.old ⊎ Shows context.now self.new fact.now) }
-        ensures justified { IsInOrder (replay_now self.old) → HasRoom self.old.pieces.piece →
-            IfErr result (λ fault. IsContradiction fault →
+        ensures justified { IsInOrder (replay_now self.old) → IfErr result (λ fault. IsContradiction fault →
             CannotShow context.now now.now.time fact.now.what fact.now self.old) }
     {
-        self.pieces.cut(now)?;
         match fact.what {
             What::Level(level) => {
                 let Some(task) = self.task_of(context, fact.thread) else {
@@ -230,8 +226,7 @@ impl TraceBuilder {
             (mutex_now context.now self.new) fact.now.what fact.now.thread) }
         ensures on { IfOk result (λ _. Extends context.now now.now.time self.old self.new) }
         ensures fault { IfErr result (NamesOnly now.now.number) }
-        ensures fits { IfOk result (λ _. HasTask context.now self.old fact.now.thread →
-            HasMutex context.now self.old mutex → Shows context.now self.new fact.now) }
+        ensures shows { IfOk result (λ _. Shows context.now self.new fact.now) }
         ensures justified { IsInOrder (replay_now self.old) → IfErr result (λ fault. IsContradiction fault →
             CannotAct context.now now.now.time fact.now mutex self.old) }
     {
@@ -257,7 +252,8 @@ impl TraceBuilder {
 
     /// Returns the task that a thread is now.
     fn task_of(&self, context: &Context, thread: u32) -> Option<TaskNo>
-        ensures { result ≡ task_now context.now self.now thread }
+        ensures task { result ≡ task_now context.now self.now thread }
+        ensures known { IfSome result (IsTask (replay_now self.now).state) }
     {
         let number = context.numbering.threads.of(thread)?;
         if is_held(&self.threads, number, thread) {
@@ -276,7 +272,8 @@ impl TraceBuilder {
 
     /// Returns the number in the trace of a mutex of the log, if it has it now.
     fn mutex_of(&self, context: &Context, mutex: u32) -> Option<MutexNo>
-        ensures { result ≡ mutex_now context.now self.now mutex }
+        ensures number { result ≡ mutex_now context.now self.now mutex }
+        ensures known { IfSome result (IsMutex (replay_now self.now).state) }
     {
         let number = context.numbering.mutexes.of(mutex)?;
         if is_held(&self.mutexes, number, mutex) {
@@ -294,6 +291,7 @@ impl TraceBuilder {
         now: &Now,
     ) -> Result<TaskNo, ImportFault>
         ensures entered { IfOk result (λ task. task_now context.now self.new thread ≡ Some task) }
+        ensures known { IfOk result (IsTask (replay_now self.new).state) }
         ensures same { IfOk result (λ _. IsSome (task_now context.now self.old thread) → self.new ≡ self.old) }
         ensures only { IfOk result (λ _.
             OnlyEntersThread context.now thread (view_of self.old) (view_of self.new)) }
@@ -301,8 +299,7 @@ impl TraceBuilder {
         ensures fault { IfErr result (NamesOnly now.now.number) }
         ensures possible { IsInOrder (replay_now self.old) → HasTask context.now self.old thread →
             IfErr result (λ fault. ¬ IsContradiction fault) }
-        ensures begins { HasTask context.now self.old thread → IfOk result (λ task.
-            task_now context.now self.old thread ≡ None →
+        ensures begins { IfOk result (λ task. task_now context.now self.old thread ≡ None →
             HasBase (replay_now self.new) (first_base context.now thread) task) }
     {
         if let Some(task) = self.task_of(context, thread) {
@@ -331,6 +328,7 @@ impl TraceBuilder {
         now: &Now,
     ) -> Result<MutexNo, ImportFault>
         ensures entered { IfOk result (λ number. mutex_now context.now self.new mutex ≡ Some number) }
+        ensures known { IfOk result (IsMutex (replay_now self.new).state) }
         ensures same { IfOk result (λ _. IsSome (mutex_now context.now self.old mutex) → self.new ≡ self.old) }
         ensures only { IfOk result (λ _.
             OnlyEntersMutex context.now mutex (view_of self.old) (view_of self.new)) }
@@ -338,8 +336,7 @@ impl TraceBuilder {
         ensures fault { IfErr result (NamesOnly now.now.number) }
         ensures possible { IsInOrder (replay_now self.old) → IsTask (replay_now self.old).state 1 →
             HasMutex context.now self.old mutex → IfErr result (λ fault. ¬ IsContradiction fault) }
-        ensures begins { IsTask (replay_now self.old).state 1 → HasMutex context.now self.old mutex →
-            IfOk result (λ number. mutex_now context.now self.old mutex ≡ None →
+        ensures begins { IfOk result (λ number. mutex_now context.now self.old mutex ≡ None →
             family_in context.now.sources.now mutex ≡ family.Protect →
             HasCeiling (replay_now self.new) (first_ceiling context.now mutex) number) }
         ensures protocols { IfOk result (λ _. ¬ (family_in context.now.sources.now mutex ≡ family.Protect) →
@@ -358,7 +355,7 @@ impl TraceBuilder {
         let Some(number) = self.mutex_of(context, mutex) else {
             return Err(ImportFault::Contradiction(now.number));
         };
-        if family_of(context.sources, mutex) == Family::Protect {
+        if is_same(family_of(context.sources, mutex), Family::Protect) {
             let level = level_of(&context.participants.mutexes, mutex);
             let ceiling = context.priorities.of_level(level);
             self.pieces.begin_with_ceiling(number, ceiling, now)?;
@@ -375,7 +372,7 @@ impl TraceBuilder {
     ) -> Result<(), AllocError>
         requires { number_in context.now.numbering.now.threads thread ≡ Some number }
         ensures taken { IfOk result (λ _. view_of self.new ≡ record (view_of self.old) {
-          threads = lists.put self.old.threads.items number (Some thread);
+          threads = lists.put self.old.threads number (Some thread);
         }) }
         ensures on { IfOk result (λ _. (time : ℕ) → Extends context.now time self.old self.new) }
     {
@@ -390,7 +387,7 @@ impl TraceBuilder {
     fn admit_mutex(&mut self, context: &Context, mutex: u32, number: u16) -> Result<(), AllocError>
         requires { number_in context.now.numbering.now.mutexes mutex ≡ Some number }
         ensures taken { IfOk result (λ _. view_of self.new ≡ record (view_of self.old) {
-          mutexes = lists.put self.old.mutexes.items number (Some mutex);
+          mutexes = lists.put self.old.mutexes number (Some mutex);
         }) }
         ensures on { IfOk result (λ _. (time : ℕ) → Extends context.now time self.old self.new) }
     {
@@ -459,7 +456,9 @@ fn level_of(participants: &[Option<Participant>], one: u32) -> u8
 }
 
 /// Returns the priority of each task at the start.
-fn bases_of(alloc: Global, context: &Context) -> Result<Vec<Prio>, AllocError> {
+fn bases_of(alloc: Global, context: &Context) -> Result<Vec<Prio>, AllocError>
+    ensures { IfOk result (λ bases. length bases.items ≡ vec_len context.now.numbering.now.threads.firsts) }
+{
     let mut bases = Vec::new(alloc);
     for thread in &context.numbering.threads.firsts {
         let level = level_of(&context.participants.threads, *thread);
@@ -470,7 +469,8 @@ fn bases_of(alloc: Global, context: &Context) -> Result<Vec<Prio>, AllocError> {
 
 /// Returns the protocol of each mutex at the start.
 fn protocols_of(alloc: Global, context: &Context) -> Result<Vec<Protocol>, AllocError>
-    ensures { IfOk result (λ protocols. All (λ protocol. is_recursive protocol ≡ false) protocols.items) }
+    ensures plain { IfOk result (λ protocols. All (λ protocol. is_recursive protocol ≡ false) protocols.items) }
+    ensures count { IfOk result (λ protocols. length protocols.items ≡ vec_len context.now.numbering.now.mutexes.firsts) }
 {
     let mut protocols = Vec::new(alloc);
     for mutex in &context.numbering.mutexes.firsts {
@@ -495,11 +495,15 @@ fn replay_of(
     ensures begin { IfOk result (λ replay. replay.entries ≡ []) }
     ensures plain { IfOk result (λ replay. NoneIsRecursive replay.start) }
     ensures order { IfOk result IsInOrder }
+    ensures tasks { IfOk result (λ replay. length replay.state.base ≡ length bases.items) }
+    ensures mutexes { IfOk result (λ replay. length replay.state.protocol ≡ length protocols.items) }
+    ensures memory { length bases.items ≤ MAX_TASKS → length protocols.items ≤ MAX_MUTEXES →
+        IfErr result (λ fault. fault ≡ import.Memory) }
     ensures fault { IfErr result NamesNone }
 {
     match Replay::new(alloc, bases, protocols) {
         Ok(replay) => Ok(replay),
         Err(MakeFault::Memory) => Err(ImportFault::Memory),
-        Err(_) => Err(ImportFault::Crowded),
+        Err(MakeFault::TooManyTasks | MakeFault::TooManyMutexes) => Err(ImportFault::Crowded),
     }
 }

@@ -1,8 +1,8 @@
 //! From facts to the pieces of a trace.
 //!
 //! A [`TraceBuilder`] makes the steps of each fact by a [replay](pim_replay::Replay), and cuts the
-//! trace into [`Piece`]s of at most 65,536 steps. After the steps of a fact it
-//! looks up whether the replay shows it.
+//! trace into [`Piece`]s of at most 65,536 steps. Behind the steps of a fact the
+//! replay shows it.
 //!
 //! ```text
 //! let numbering = Numbering::of(alloc, &sources, &participants)?;
@@ -14,7 +14,7 @@
 //!
 //! `numbering.rt` gives threads and mutexes their numbers in the trace, `builder.rt` makes the
 //! steps, with those of `around.rt` that the model needs besides, `pieces.rt` keeps the pieces and
-//! cuts them, `showing.rt` looks up what the replay shows.
+//! cuts them.
 //!
 //! It is proved that the trace shows the facts that it was built from, one behind the other, at their
 //! times, and between which steps each of those appears who take part (specs/Shown.antt). From one
@@ -33,7 +33,7 @@
 //! ```
 //!
 //! [`numbers_law`] has no code: its contract says that no two threads, and no two
-//! mutexes, have one number at a time.
+//! mutexes, have one number at a time, and that a thread that was given a number can have it.
 #![tactic(auto)]
 
 mod around;
@@ -45,7 +45,6 @@ mod participants;
 mod piece;
 mod pieces;
 mod sharing;
-mod showing;
 mod span;
 mod times;
 

@@ -5,7 +5,8 @@ ghost use Rattle.pim_replay.specs.Replays.{observed, program_of};
 ghost use Rattle.pim_replay.specs.Possible.{CanDo, NoneIsRecursive};
 ghost use Rattle.pim_replay.specs.declared.fault.ReplayFault.TheVariants as replay;
 ghost use Rattle.pim_builder.specs.Faults.{IsContradiction, NamesOnly};
-ghost use Rattle.pim_builder.specs.Pieces.{AllJoinAt, AreJoined, EndWith, GoesOn, HasRoom, HasTimes, own_steps, steps_of};
+ghost use Rattle.pim_builder.specs.Pieces.{AllJoinAt, AreJoined, EndWith, GoesOn, HasAsMany, HasRoom, HasTimes};
+ghost use Rattle.pim_builder.specs.Pieces.{own_steps, steps_of};
 
 use crate::builder::Now;
 use crate::fault::ImportFault;
@@ -96,6 +97,7 @@ impl Pieces {
         ensures queued { IfOk result (λ _. JoinsQueue observation.now self.new.piece.replay) }
         ensures given { IfOk result (λ _. (n : ℕ) → IsGiven observation.now n → AllJoinAt self.old self.new n) }
         ensures on { IfOk result (λ _. GoesOn now.now.time self.old self.new) }
+        ensures counts { HasAsMany self.old self.new }
         ensures fault { IfErr result (NamesOnly now.now.number) }
         ensures possible { IsInOrder self.old.piece.replay → CanDo self.old.piece.replay observation.now →
             IfErr result (λ fault. ¬ IsContradiction fault) }
@@ -104,7 +106,11 @@ impl Pieces {
         let _run = self.piece.replay.entries();
         match self.piece.replay.observe(observation) {
             Ok(()) => {}
-            Err(fault) => return Err(at_record(fault, now)),
+            Err(fault) => {
+                // And that there are as many tasks and mutexes.
+                let _made = self.piece.replay.entries();
+                return Err(at_record(fault, now));
+            }
         }
         let steps = self.piece.replay.entries().len();
         push_times(&mut self.piece.times, steps, now.time)?;
@@ -116,6 +122,7 @@ impl Pieces {
     pub(crate) fn cut(&mut self, now: &Now) -> Result<(), ImportFault>
         ensures same { IfOk result (λ _. StaysTheSame self.old.piece.replay self.new.piece.replay) }
         ensures on { IfOk result (λ _. GoesOn now.now.time self.old self.new) }
+        ensures counts { HasAsMany self.old self.new }
         ensures fault { IfErr result (NamesOnly now.now.number) }
         ensures room { HasRoom self.old.piece → (self.new ≡ self.old) × IsOk result }
     {
@@ -149,6 +156,7 @@ impl Pieces {
         requires order { KeepsOrder self.old.piece.replay next.replay }
         ensures ended { IfOk result (λ _. EndWith self.old self.new.before) }
         ensures begun { IfOk result (λ _. self.new.piece ≡ next) }
+        ensures counts { HasAsMany self.old self.new }
     {
         // By their contracts the proof knows that the steps are runs, which make no mutex recursive.
         let (_own, _next) = (self.piece.replay.entries(), next.replay.entries());

@@ -19,7 +19,7 @@ use Rattle.pim_findings.specs.declared.findings.Findings.{Findings}
 use Rattle.pim_builder.specs.Faults.{IsContradiction, NamesNone, NamesOnly}
 use Rattle.pim_builder.specs.Shown.{AreShown}
 use Rattle.pim_builder.specs.declared.builder.Context.{Context}
-use Rattle.pim_builder.specs.declared.builder.TraceBuilder.{TraceBuilder}
+use Rattle.pim_builder.specs.Views.{BuilderState}
 use Rattle.pim_builder.specs.declared.fault.ImportFault.{ImportFault}
 use Rattle.pim_builder.specs.declared.fault.ImportFault.TheVariants.{Contradiction}
 use Rattle.pim_import.specs.Contradicting.{ContradictsAt, StopsShowing}
@@ -42,7 +42,7 @@ pub names-none-not : (fault : ImportFault) (number : ℕ) → NamesNone fault �
 names-none-not fault number names is = subst NamesNone is names
 
 -- what is known as a log begins: of no fact
-pub knows-none : (context : Context) (n k : ℕ) (sections : CriticalSections) (found : Findings) (builder : TraceBuilder) →
+pub knows-none : (context : Context) (n k : ℕ) (sections : CriticalSections) (found : Findings) (builder : BuilderState) →
     Finds n k [] found → Owns k [] found → HandsOver n k [] found → KnowsOrders n [] found →
     KnowsBlocking context.sources.now.ids [] found → AreShown context [] builder →
     Knows context n k sections [] found builder
@@ -59,7 +59,7 @@ knows-none context n k sections found builder finds owns hands orders blocking s
     }
 
 -- a course contradicts what was before by itself, or as soon as it is known what was found of the facts before
-abbrev pub Fails : Context → ℕ → ℕ → CriticalSections → Course → ℕ → Findings → TraceBuilder → Type 0
+abbrev pub Fails : Context → ℕ → ℕ → CriticalSections → Course → ℕ → Findings → BuilderState → Type 0
 Fails context n k sections course time found builder =
     (course.is_contradiction ≡ true)
     ⊎ ((facts : List Moment) → Knows context n k sections facts found builder →
@@ -67,7 +67,7 @@ Fails context n k sections course time found builder =
 
 -- the way stops at the next record
 pub contradicts-record : (bytes : List ℕ) (context : Context) (sections : CriticalSections) (n k number last time : ℕ)
-    (put_at : Option ℕ) (old new : Walk) (found : Findings) (builder : TraceBuilder) → 1 ≤ number →
+    (put_at : Option ℕ) (old new : Walk) (found : Findings) (builder : BuilderState) → 1 ≤ number →
     time ≡ unwrap_or put_at last → IsTimeOf bytes number put_at → new.added ≡ old.added → HasSameSize old.course new.course →
     IsLacking bytes number old.course new.course ⊎ GoesBy bytes context.sources.now number old.course new.course →
     Fails context n k sections new.course time found builder →
@@ -93,7 +93,7 @@ contradicts-record bytes context sections n k number last time put_at old new fo
 
 -- the way stops at the next request
 pub contradicts-request : (bytes : List ℕ) (context : Context) (sections : CriticalSections) (n k number last time : ℕ)
-    (put_at : Option ℕ) (request : Request) (old new : Walk) (found : Findings) (builder : TraceBuilder) →
+    (put_at : Option ℕ) (request : Request) (old new : Walk) (found : Findings) (builder : BuilderState) →
     slice_get context.sources.now.requests.list.items old.added ≡ Some request → IsBehind number request →
     put_at ≡ option_map_or (λ one. one.time) (slice_get context.sources.now.requests.list.items old.added) None →
     time ≡ unwrap_or put_at last → Adds context.sources.now old new →

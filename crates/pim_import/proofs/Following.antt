@@ -37,7 +37,7 @@ use Rattle.pim_import.proofs.Going.{Adds, goes-by-record, goes-by-request}
 use Rattle.pim_import.specs.Following.{ArePlaced, FollowsLog, HasAdded, HasFollowed, IsLacking, IsOfThread, IsSpared, Knows, Stage}
 use Rattle.pim_builder.specs.Shown.{AreShown, AreShownIn, Dated}
 use Rattle.pim_builder.specs.declared.builder.Context.{Context}
-use Rattle.pim_builder.specs.declared.builder.TraceBuilder.{TraceBuilder}
+use Rattle.pim_builder.specs.Views.{BuilderState}
 use Rattle.pim_import.specs.Following.{facts_of, is_kept, kept_of, moment_of, moments_of, stage_of, dated}
 use Rattle.pim_import.specs.LeftOut.{IsKept, Keeps}
 use Rattle.pim_import.specs.declared.critical_sections.CriticalSections.{CriticalSections}
@@ -113,7 +113,7 @@ SectionsMore m old new = (ids : Ids) (facts : List Moment) → KnowsBlocking ids
 
 -- one more fact, of a thread of the log, which isn't kept
 pub knows-without : (context : Context) (n k : ℕ) (sections : CriticalSections) (m : Moment) (facts : List Moment)
-    (old new : Findings) (builder : TraceBuilder) →
+    (old new : Findings) (builder : BuilderState) →
     m.fact.thread < length old.waiting.open.items → is_kept sections m.fact ≡ false → IsSpared sections m →
     KeepsWaits old new → new.mutexes ≡ old.mutexes → new.waiting ≡ old.waiting → OrdersMore m old new →
     SectionsMore m old new →
@@ -135,7 +135,7 @@ knows-without context n k sections m facts old new builder inside is spared keep
 
 -- one more fact, of a thread of the log, which is kept
 pub knows-with : (context : Context) (n k : ℕ) (sections : CriticalSections) (m : Moment) (facts : List Moment)
-    (old mid new : Findings) (before after : TraceBuilder) →
+    (old mid new : Findings) (before after : BuilderState) →
     m.fact.thread < length old.waiting.open.items → IsKept sections m.fact →
     KeepsWaits old mid → mid.mutexes ≡ old.mutexes → mid.waiting ≡ old.waiting → OrdersMore m old mid →
     SectionsMore m old mid →
@@ -182,7 +182,7 @@ moments-more sources course time facts i d lt =
 
 -- a walk that begins went through nothing
 pub follows-begin : (bytes : List ℕ) (context : Context) (sections : CriticalSections) (n k : ℕ) (walk : Walk)
-    (found : Findings) (builder : TraceBuilder) → Begins context.sources.now.ids walk.course → walk.added ≡ 0 →
+    (found : Findings) (builder : BuilderState) → Begins context.sources.now.ids walk.course → walk.added ≡ 0 →
     Knows context n k sections [] found builder → HasFollowed bytes context sections n k 0 0 walk found builder
 follows-begin bytes context sections n k walk found builder begins none knows =
     record {
@@ -197,7 +197,7 @@ follows-begin bytes context sections n k walk found builder begins none knows =
 
 -- one more record
 pub follows-record : (bytes : List ℕ) (context : Context) (sections : CriticalSections) (n k number last time : ℕ)
-    (put_at : Option ℕ) (old new : Walk) (found looked : Findings) (before after : TraceBuilder) → 1 ≤ number →
+    (put_at : Option ℕ) (old new : Walk) (found looked : Findings) (before after : BuilderState) → 1 ≤ number →
     time ≡ unwrap_or put_at last → IsTimeOf bytes number put_at → new.added ≡ old.added → HasSameSize old.course new.course →
     IsLacking bytes number old.course new.course ⊎ GoesBy bytes context.sources.now number old.course new.course →
     ((facts : List Moment) → Knows context n k sections facts found before →
@@ -221,7 +221,7 @@ follows-record bytes context sections n k number last time put_at old new found 
 
 -- one more request, which is the next one
 pub follows-request : (bytes : List ℕ) (context : Context) (sections : CriticalSections) (n k number last time : ℕ)
-    (put_at : Option ℕ) (request : Request) (old new : Walk) (found looked : Findings) (before after : TraceBuilder) →
+    (put_at : Option ℕ) (request : Request) (old new : Walk) (found looked : Findings) (before after : BuilderState) →
     slice_get context.sources.now.requests.list.items old.added ≡ Some request → IsBehind number request →
     put_at ≡ option_map_or (λ one. one.time) (slice_get context.sources.now.requests.list.items old.added) None →
     time ≡ unwrap_or put_at last → Adds context.sources.now old new →
@@ -248,7 +248,7 @@ follows-request bytes context sections n k number last time put_at request old n
 
 -- the log ends
 pub follows-log : (bytes : List ℕ) (context : Context) (sections : CriticalSections) (n k end last : ℕ) (walk : Walk)
-    (found : Findings) (builder : TraceBuilder) (built : Built) → end ≡ end_of (header_of bytes) →
+    (found : Findings) (builder : BuilderState) (built : Built) → end ≡ end_of (header_of bytes) →
     ArePlaced bytes context.sources.now.requests.list.items →
     ((facts : List Moment) → Finds n k facts found →
     AreReported k (all_waits facts context.sources.now.ids.ended n) built.findings.waits) →

@@ -8,7 +8,7 @@ use Rattle.pim_builder.specs.Refusing.{CannotShow}
 use Rattle.pim_builder.specs.Shown.{AreShownBy, Dated, Stage}
 use Rattle.pim_builder.specs.Views.{replay_now}
 use Rattle.pim_builder.specs.declared.builder.Context.{Context}
-use Rattle.pim_builder.specs.declared.builder.TraceBuilder.{TraceBuilder}
+use Rattle.pim_builder.specs.Views.{BuilderState}
 use Rattle.pim_builder.specs.declared.fault.ImportFault.{ImportFault}
 use Rattle.pim_course.specs.declared.course.Course.{Course}
 use Rattle.pim_facts.specs.Shown.{shown_in}
@@ -29,7 +29,7 @@ shown-in-order context (latest ∷ facts) stage (before, earlier, leads, timed, 
 
 -- a fact that is kept, and that the trace can't show if showing it fails, can't go into the trace
 pub kept-unfit : (context : Context) (sections : CriticalSections) (course : Course) (time : ℕ) (fact : Fact)
-    (found : Findings) (builder : TraceBuilder) (shown : Result Bool ImportFault) → IsKept sections fact →
+    (found : Findings) (builder : BuilderState) (shown : Result Bool ImportFault) → IsKept sections fact →
     (IsInOrder (replay_now builder) → HasRoom builder.pieces.piece →
     IfErr shown (λ fault. IsContradiction fault → CannotShow context time fact.what fact builder)) →
     IfErr shown (λ fault. IsContradiction fault → (n k : ℕ) (facts : List Moment) →
@@ -40,7 +40,7 @@ kept-unfit context sections course time fact found builder (Err fault) kept just
 
 -- the course stops at a fact that it shows: those before it are known, and it can't go into the trace
 pub stops-at : (context : Context) (n k : ℕ) (sections : CriticalSections) (course : Course) (time : ℕ)
-    (facts : List Moment) (shown : List Fact) (i : ℕ) (d : Fact) (found : Findings) (builder : TraceBuilder) →
+    (facts : List Moment) (shown : List Fact) (i : ℕ) (d : Fact) (found : Findings) (builder : BuilderState) →
     i < length shown → shown ≡ shown_in course.shown →
     Knows context n k sections (moments_of context.sources.now course time (take i shown) ++ facts) found builder →
     IsUnfit context n sections course time (get_or shown i d) builder → StopsShowing context n k sections course time facts

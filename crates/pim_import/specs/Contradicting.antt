@@ -12,7 +12,7 @@ use Rattle.pim_builder.specs.Numbered.{HaveNumbers}
 use Rattle.pim_builder.specs.Pieces.{HasRoom}
 use Rattle.pim_builder.specs.Refusing.{CannotShow}
 use Rattle.pim_builder.specs.declared.builder.Context.{Context}
-use Rattle.pim_builder.specs.declared.builder.TraceBuilder.{TraceBuilder}
+use Rattle.pim_builder.specs.Views.{BuilderState}
 use Rattle.pim_import.specs.Following.{AreOfLog, IsWay, KeepsThoseOfLog, Knows, Stage, facts_of, moments_of}
 use Rattle.pim_import.specs.LeftOut.{IsKept, MayBeLeftOut}
 use Rattle.pim_import.specs.declared.critical_sections.CriticalSections.{CriticalSections}
@@ -20,7 +20,7 @@ use Rattle.pim_import.specs.declared.critical_sections.CriticalSections.{Critica
 -- A fact doesn't fit the trace that is being made: its thread isn't below n; or it isn't of a critical section that is
 -- kept, and the trace may not be without it; or it is kept, and the trace can't show it. Of a piece that is nearly full
 -- the last isn't said.
-abbrev pub IsUnfit : Context → ℕ → CriticalSections → Course → ℕ → Fact → TraceBuilder → Type 0
+abbrev pub IsUnfit : Context → ℕ → CriticalSections → Course → ℕ → Fact → BuilderState → Type 0
 IsUnfit context n sections course time fact builder =
     ¬ (fact.thread < n)
     ⊎ (¬ (IsKept sections fact ⊎ MayBeLeftOut course context.sources.now fact)
@@ -34,7 +34,7 @@ pub record StopsShowing (context : Context) (n k : ℕ) (sections : CriticalSect
   pub further : List Fact
   pub shown : shown_in course.shown ≡ done ++ fact ∷ further
   pub found : Findings
-  pub builder : TraceBuilder
+  pub builder : BuilderState
   pub knows : Knows context n k sections (moments_of context.sources.now course time done ++ facts) found builder
   pub unfit : IsUnfit context n sections course time fact builder
 

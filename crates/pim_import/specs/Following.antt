@@ -38,7 +38,7 @@ use Rattle.pim_findings.specs.Waits.{Moment, all_waits}
 use Rattle.pim_findings.specs.declared.findings.Findings.{Findings}
 use Rattle.pim_builder.specs.Shown.{AreShown, AreShownIn, Dated}
 use Rattle.pim_builder.specs.declared.builder.Context.{Context}
-use Rattle.pim_builder.specs.declared.builder.TraceBuilder.{TraceBuilder}
+use Rattle.pim_builder.specs.Views.{BuilderState}
 use Rattle.pim_import.specs.KeptSections.{KeepsThoseOf, room_of}
 use Rattle.pim_import.specs.LeftOut.{IsKept, MayBeLeftOut}
 use Rattle.pim_import.specs.declared.critical_sections.CriticalSections.{CriticalSections}
@@ -151,7 +151,7 @@ IsSpared sections m = IsKept sections m.fact ⊎ MayBeLeftOut m.course m.sources
 -- threads of a log. What isn't kept may be left out. The trace that is being made shows those that are kept, in turn, by
 -- steps at their times.
 pub record Knows (context : Context) (n k : ℕ) (sections : CriticalSections) (facts : List Moment) (found : Findings)
-    (builder : TraceBuilder) : Type 0 where
+    (builder : BuilderState) : Type 0 where
   pub finds : Finds n k (kept_of sections facts) found
   pub owns : Owns k (kept_of sections facts) found
   pub hand_overs : HandsOver n k (kept_of sections facts) found
@@ -169,7 +169,7 @@ stage_of number record_time time walk =
 -- A walk went through a log up to the record with this number and time, and the findings and the trace are those of the
 -- facts on its way.
 pub record HasFollowed (bytes : List ℕ) (context : Context) (sections : CriticalSections) (n k number record_time : ℕ)
-    (walk : Walk) (found : Findings) (builder : TraceBuilder) : Type 0 where
+    (walk : Walk) (found : Findings) (builder : BuilderState) : Type 0 where
   pub time : ℕ
   pub before : List Stage
   pub way : IsWay bytes context.sources.now (stage_of number record_time time walk) before
@@ -178,7 +178,7 @@ pub record HasFollowed (bytes : List ℕ) (context : Context) (sections : Critic
 
 -- A walk went through a log, and added each request behind the records so far.
 pub record HasAdded (bytes : List ℕ) (context : Context) (sections : CriticalSections) (n k number record_time : ℕ)
-    (walk : Walk) (found : Findings) (builder : TraceBuilder) : Type 0 where
+    (walk : Walk) (found : Findings) (builder : BuilderState) : Type 0 where
   pub followed : HasFollowed bytes context sections n k number record_time walk found builder
   pub added : AreAdded context.sources.now.requests.list.items number walk.added
 

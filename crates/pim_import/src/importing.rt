@@ -14,7 +14,7 @@ ghost use Rattle.pim_facts.specs.Shown.{shown_in};
 ghost use Rattle.pim_builder.specs.Pieces.{AreJoined, HasTimes};
 ghost use Rattle.pim_builder.specs.Showing.{IsSetting, Shows};
 ghost use Rattle.pim_builder.specs.Shown.{AreShown};
-ghost use Rattle.pim_builder.specs.declared.builder.TraceBuilder.{TraceBuilder};
+ghost use Rattle.pim_builder.specs.Views.{BuilderState};
 ghost use Rattle.pim_import.specs.LeftOut.{IsKept, MayBeLeftOut};
 ghost use Rattle.pim_import.specs.Tallies.{total};
 
@@ -151,12 +151,12 @@ fn build(
     ensures joined { IfOk result (λ built. AreJoined built.pieces.items) }
     ensures times { IfOk result (λ built. All HasTimes built.pieces.items) }
     ensures findings { IfOk result (λ built. (n k : ℕ) → ArePlaced log.now context.now.sources.now.requests.list.items →
-        ((builder : TraceBuilder) → AreShown context.now [] builder → Knows context.now n k sections.now [] findings builder) →
+        ((builder : BuilderState) → AreShown context.now [] builder → Knows context.now n k sections.now [] findings builder) →
         FollowsLog log.now context.now sections.now n k built) }
     ensures fault { IfErr result (NamesOneOf (end_of (header_of log.now))) }
     ensures contradiction { IfErr result (λ fault. (number n k : ℕ) → fault ≡ import.Contradiction number →
         ArePlaced log.now context.now.sources.now.requests.list.items →
-        ((builder : TraceBuilder) → AreShown context.now [] builder → Knows context.now n k sections.now [] findings builder) →
+        ((builder : BuilderState) → AreShown context.now [] builder → Knows context.now n k sections.now [] findings builder) →
         ContradictsAt log.now context.now sections.now n k number) }
 {
     let sources = context.sources;

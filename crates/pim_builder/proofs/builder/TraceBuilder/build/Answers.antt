@@ -1,15 +1,50 @@
-use Rattle.std.proofs.Common.{rules, IsTrue}
-use Rattle.pim_builder.specs.Showing.{Shows}
+use Rattle.std.proofs.Common.{IfErr, subst}
+use Rattle.pim_replay.specs.Replays.{IsInOrder}
+use Rattle.pim_builder.specs.Faults.{IsContradiction}
+use Rattle.pim_builder.specs.Pieces.{HasRoom}
+use Rattle.pim_builder.specs.Refusing.{CannotShow}
+use Rattle.pim_builder.specs.Views.{BuilderState}
 use Rattle.pim_builder.proofs.Extending.{shown_more}
-use Rattle.pim_builder.proofs.builder.TraceBuilder.build.Goals.{else-is_used-via-then-is_used+else-not-shows, else-is_used-via-else-is_used}
+use Rattle.pim_builder.proofs.Justifying.{of_fault}
+use Rattle.pim_builder.proofs.Making.{IsMade, cut_and_made, of_fields}
 use Rattle.pim_builder.proofs.builder.TraceBuilder.build.Goals as goal
 
-pub returns-clause-shown : goal.returns-clause-shown
-returns-clause-shown c =
-    let shows : IsTrue c.in_ok-is_used.is_used → Shows c.args.context.now c.make.new.self c.args.fact.now = elim c.else-is_used.branch [
-      | else-is_used-via-then-is_used+else-not-shows w ↦ λ used. search (rules, w.shows.ensures, w.if-not-shows.false)
-      | else-is_used-via-else-is_used w ↦ λ used. absurd (cc (used, w.if-is_used.false))
-    ] in
-    shown_more c.args.context.now c.args.fact.now c.args.now.now.time c.args.self.now c.make.new.self c.in_ok-is_used.is_used
-    c.in_ok-is_used.ensures.on shows c.in_ok-is_used.ensures.unset c.in_ok-is_used.ensures.others
-    c.in_ok-is_used.ensures.queued c.in_ok-is_used.ensures.given
+pub returns : goal.returns
+returns c =
+    let made : IsMade c.args.context.now c.args.now.now.time c.args.fact.now c.args.self.now c.make.new.self =
+    subst (λ a. IsMade c.args.context.now c.args.now.now.time c.args.fact.now a c.make.new.self) c.self.view_is
+    (cut_and_made c.args.context.now c.args.now.now.time c.args.fact.now (of_fields c.self.inside) c.cut.new.self
+    c.make.new.self c.in_ok-cut.ensures.on c.in_ok-cut.ensures.same (record {
+      on = c.in_ok-is_used.ensures.on;
+      others = c.in_ok-is_used.ensures.others;
+      queued = c.in_ok-is_used.ensures.queued;
+      given = c.in_ok-is_used.ensures.given;
+    })) in
+    record {
+      unused = c.in_ok-is_used.ensures.unused;
+      shows = c.in_ok-is_used.ensures.shows;
+      shown = shown_more c.args.context.now c.args.fact.now c.args.now.now.time c.args.self.now c.make.new.self
+          c.in_ok-is_used.is_used made.on c.in_ok-is_used.ensures.shows c.in_ok-is_used.ensures.unset made.others
+          made.queued made.given;
+      others = made.others;
+      queued = made.queued;
+      given = made.given;
+      fault = tt;
+      justified = λ order room. tt;
+    }
+
+pub returns-in_err-is_used-clause-justified : goal.returns-in_err-is_used-clause-justified
+returns-in_err-is_used-clause-justified c = subst
+    (λ (a : BuilderState). IsInOrder a.pieces.piece.replay → HasRoom a.pieces.piece →
+    IfErr c.from_residual-in_err-is_used.result (λ fault. IsContradiction fault →
+    CannotShow c.args.context.now c.args.now.now.time c.args.fact.now.what c.args.fact.now a))
+    c.self.view_is
+    (λ order room. of_fault
+    (λ fault. IsContradiction fault →
+    CannotShow c.args.context.now c.args.now.now.time c.args.fact.now.what c.args.fact.now (of_fields c.self.inside))
+    c.in_err-is_used.field-0.0 c.from_residual-in_err-is_used.result c.from_residual-in_err-is_used.ensures.1
+    (λ fault. subst
+    (λ p. CannotShow c.args.context.now c.args.now.now.time c.args.fact.now.what c.args.fact.now
+    (record (of_fields c.self.inside) { pieces = p }))
+    (c.in_ok-cut.ensures.room room).0
+    (c.in_err-is_used.ensures.justified (c.in_ok-cut.ensures.on.order order) fault)))

@@ -2,8 +2,8 @@ use Rattle.std.proofs.Common.{◌∙◌, ◌-◌, ◌++◌, Err, ap, length, ref
 use Rattle.pim_replay.specs.Possible.{CanDo}
 use Rattle.pim_replay.specs.Replays.{IsInOrder}
 use Rattle.pim_builder.specs.declared.piece.Piece.{Piece}
-use Rattle.pim_builder.specs.Pieces.{AllJoinAt, Point}
-use Rattle.pim_builder.proofs.Doing.{plain_on}
+use Rattle.pim_builder.specs.Pieces.{AllJoinAt, HasAsMany, Point}
+use Rattle.pim_builder.proofs.Doing.{counts_on, plain_on}
 use Rattle.pim_builder.proofs.GoingOn.{steps_made}
 use Rattle.pim_builder.proofs.KeepingQueues.{observed_joins, observed_queues}
 use Rattle.pim_builder.proofs.pieces.Pieces.observe.Goals as goal
@@ -45,3 +45,17 @@ returns-in-Err-clause-possible c = λ order can contradicts.
       can = subst (λ (p : Point). CanDo p.piece.replay c.args.observation.now) (sym c.self.view_is) can;
     })
     (c.in-Err.is ∙ ap Err (c.at_record.ensures.contradiction contradicts))
+
+pub returns-in-Err-clause-counts : goal.returns-in-Err-clause-counts
+returns-in-Err-clause-counts c =
+    let new : Point = record {
+      before = c.self.inside.ended.items;
+      piece = record {
+        replay = c.observe.new.self;
+        times = c.self.inside.piece.times;
+        restoring = c.self.inside.piece.restoring;
+      };
+    } in
+    subst (λ p. HasAsMany p new) c.self.view_is
+    (counts_on c.self.inside.piece.replay c.observe.new.self c.entries-run.ensures.run c.entries-made.ensures.run
+    c.observe.ensures.continues)
