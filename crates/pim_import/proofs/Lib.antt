@@ -10,3 +10,9 @@ pub mod Waiting
 pub mod Numbers
 pub mod Contradicting
 pub mod Stopping
+pub mod Telling
+pub mod Lasting
+pub mod Seeing
+pub mod Acting
+pub mod TakingPart
+pub mod Beginning

@@ -136,7 +136,7 @@ on-way bytes waits sources last (from ∷ before) covers shown way end =
     ]
 
 -- no more requests are added than there are
-few-added : (bytes : List ℕ) (sources : Sources) (last : Stage) (before : List Stage) → IsWay bytes sources last before →
+pub few-added : (bytes : List ℕ) (sources : Sources) (last : Stage) (before : List Stage) → IsWay bytes sources last before →
     last.added ≤ length sources.requests.list.items
 few-added bytes sources last [] way = omega (arith, way.added)
 few-added bytes sources last (from ∷ before) way =
@@ -184,7 +184,7 @@ no-fault true fault o e = cc
 no-fault false fault o e = refl
 
 -- the numbers of a log end above 0
-log-above : (bytes : List ℕ) → IsLog bytes → 0 < end_of (header_of bytes)
+pub log-above : (bytes : List ℕ) → IsLog bytes → 0 < end_of (header_of bytes)
 log-above bytes log =
     end-above bytes (no-fault _ _ _ (second-none (form_fault_of bytes) _ log.header))
 

@@ -5,3 +5,5 @@ pub mod LeftOut
 pub mod Numbers
 pub mod Waiting
 pub mod Contradicting
+pub mod TakingPart
+pub mod Seeing

@@ -1,10 +1,13 @@
 //! Which critical sections are in the trace.
-ghost use Rattle.std.specs.Prelude.{◌≡◌, ◌⊎◌, ◌↔◌, ◌++◌, ℕ, Bool, List, All, IfOk, IfSome, IsTrue, Some};
+ghost use Rattle.std.specs.Prelude.{◌≡◌, ◌⊎◌, ◌↔◌, ◌++◌, ◌<◌, ◌^◌, ℕ, Bool, List, All, IfOk, IfSome, IsTrue, Some};
 ghost use Rattle.pim_facts.specs.Shown.{shown_in};
 ghost use Rattle.pim_findings.specs.Waits.{Moment};
-ghost use Rattle.pim_import.specs.Following.{ArePlaced, KeepsThoseOfLog, moments_of};
-ghost use Rattle.pim_import.specs.KeptSections.{KeepsThoseOf};
+ghost use Rattle.pim_import.specs.Following.{AreOfLog, ArePlaced, KeepsThoseOfLog, moments_of};
+ghost use Rattle.pim_import.specs.KeptSections.{KeepsThoseOf, room_of};
 ghost use Rattle.pim_import.specs.LeftOut.{IsKept, Keeps, MustStay};
+ghost use Rattle.pim_import.specs.TakingPart.{TakePartByLog};
+ghost use Rattle.pim_log.specs.Logs.{IsLog};
+ghost use Rattle.pim_requests.specs.declared.waits.Wait.{Wait};
 
 use crate::left_out::must_stay;
 use crate::seen::Seen;
@@ -25,7 +28,10 @@ pub struct CriticalSections {
 
 impl CriticalSections {
     /// Returns which critical sections of the log are in the trace, and who takes part in it. Which sections these are is
-    /// proved: those that the facts of the log must keep, and no others.
+    /// proved: those that the facts of the log must keep, and no others. Of a log with fewer than 2^32 records and requests
+    /// it is proved, too, that the thread and the mutex of each fact in the trace take part at its record, that whoever
+    /// takes part begins to by such a fact, with the level or the ceiling that it has then, and that who owns or awaits
+    /// something in the trace at the end takes part up to the end.
     ///
     /// # Errors
     ///
@@ -36,8 +42,11 @@ impl CriticalSections {
         sources: &Sources,
         is_all: bool,
     ) -> Result<(CriticalSections, Participants), AllocError>
-        ensures { ArePlaced log.now sources.now.requests.list.items →
+        ensures sections { ArePlaced log.now sources.now.requests.list.items →
             IfOk result (λ found. KeepsThoseOfLog log.now sources.now is_all found.0) }
+        ensures participants { (waits : List Wait) → IsLog log.now → AreOfLog log.now waits sources.now →
+            ArePlaced log.now sources.now.requests.list.items → room_of log.now sources.now < 2 ^ 32 →
+            IfOk result (λ found. TakePartByLog log.now sources.now found.0 found.1) }
     {
         let end = log.header().end();
         let room = (end as usize).saturating_add(sources.requests.list.len());

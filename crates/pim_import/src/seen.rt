@@ -1,4 +1,12 @@
 //! Who takes part in the trace, as far as its records were looked at.
+ghost use Rattle.std.specs.Prelude.{◌≡◌, ◌≢◌, ◌⊎◌, ◌↔◌, ◌<◌, ℕ, length, max, min, IfOk, Some, None, slice_index_or};
+ghost use Rattle.pim_builder.specs.declared.participants.Participant.{Participant};
+ghost use Rattle.pim_facts.specs.Shown.{shown_in};
+ghost use Rattle.pim_import.specs.LeftOut.{Keeps};
+ghost use Rattle.pim_import.specs.Seeing.{AreSeen, BeganSo, BeginOrBefore, HasPlaces, HasSizes, IsEmpty, IsHeldAt};
+ghost use Rattle.pim_import.specs.Seeing.{IsNoted, LastOn, Sees, StillBegin, StillTakePart};
+ghost use Rattle.pim_import.specs.TakingPart.{LastsToEnd, StayToEnd, TakesPartAt, appearing};
+ghost use Rattle.pim_import.specs.declared.seen.Appearing.{Appearing};
 
 use crate::critical_sections::CriticalSections;
 use pim_builder::{Participant, Participants, Span};
@@ -38,7 +46,10 @@ impl Seen {
     /// # Errors
     ///
     /// Returns `AllocError` if out of memory.
-    pub fn none(alloc: Global, sources: &Sources) -> Result<Seen, AllocError> {
+    pub fn none(alloc: Global, sources: &Sources) -> Result<Seen, AllocError>
+        ensures sizes { IfOk result (HasSizes (length sources.now.ids.threads.items) (length sources.now.ids.mutexes.items)) }
+        ensures empty { IfOk result IsEmpty }
+    {
         let participants = Participants {
             threads: vec![in alloc; None; sources.ids.threads.len()]?,
             mutexes: vec![in alloc; None; sources.ids.mutexes.len()]?,
@@ -52,7 +63,10 @@ impl Seen {
 
     /// Notes who is shown by the record with this number, or by a request behind it. The critical sections are those that
     /// are in the trace as far as it is known by then.
-    pub fn look(&mut self, walk: &Walk, sections: &CriticalSections, number: u64) {
+    pub fn look(&mut self, walk: &Walk, sections: &CriticalSections, number: u64)
+        ensures { (n k : ℕ) → HasSizes n k self.old →
+            AreSeen n k sections.now walk.now.course number (shown_in walk.now.course.shown) self.old self.new }
+    {
         for fact in walk.shown() {
             match fact.what {
                 What::Granted(mutex)
@@ -68,7 +82,10 @@ impl Seen {
     }
 
     /// Notes a thread and a mutex if the critical section is in the trace. Else the grant is kept until it is.
-    fn see(&mut self, sections: &CriticalSections, fact: &Fact, now: &Appearing) {
+    fn see(&mut self, sections: &CriticalSections, fact: &Fact, now: &Appearing)
+        ensures { (n k : ℕ) → HasSizes n k self.old → now.now.section ≡ fact.now.section →
+            Sees n k sections.now fact.now now.now self.old self.new }
+    {
         if sections.has(fact) {
             if let Some(grant) = self.grant_of(now) {
                 self.keep(now.mutex, None);
@@ -81,7 +98,10 @@ impl Seen {
     }
 
     /// Returns the grant of the critical section in which somebody appears, if it is kept.
-    fn grant_of(&self, now: &Appearing) -> Option<Appearing> {
+    fn grant_of(&self, now: &Appearing) -> Option<Appearing>
+        ensures { (grant : Appearing) → (result ≡ Some grant) ↔
+            (IsHeldAt self.now now.now.mutex grant × (grant.section ≡ now.now.section)) }
+    {
         match self.grants.get(now.mutex as usize) {
             Some(Some(grant)) if grant.section == now.section => Some(*grant),
             _ => None,
@@ -89,7 +109,14 @@ impl Seen {
     }
 
     /// Keeps a grant of a mutex, or none.
-    fn keep(&mut self, mutex: u32, grant: Option<Appearing>) {
+    fn keep(&mut self, mutex: u32, grant: Option<Appearing>)
+        ensures participants { self.new.participants ≡ self.old.participants }
+        ensures size { length self.new.grants.items ≡ length self.old.grants.items }
+        ensures kept { mutex < length self.old.grants.items → slice_index_or self.new.grants.items mutex None ≡ grant }
+        ensures others { (m : ℕ) → m ≢ mutex →
+            slice_index_or self.new.grants.items m None ≡ slice_index_or self.old.grants.items m None }
+        ensures held { (m : ℕ) (one : Appearing) → IsHeldAt self.new m one → IsHeldAt self.old m one ⊎ (grant ≡ Some one) }
+    {
         if (mutex as usize) < self.grants.len() {
             self.grants[mutex as usize] = grant;
         }
@@ -97,14 +124,23 @@ impl Seen {
 
     /// Returns who takes part in the trace of these critical sections. Those who own or await something in it at the end of
     /// the log do so to the end, and the mutexes too.
-    pub fn end(self, course: &Course, sections: &CriticalSections) -> Participants {
+    pub fn end(self, course: &Course, sections: &CriticalSections) -> Participants
+        ensures last { LastOn self.participants result }
+        ensures stay { StayToEnd course.now sections.now result }
+    {
         let mut participants = self.participants;
         stay(&mut participants, course, sections);
         participants
     }
 
     /// Notes that a record shows a thread and a mutex.
-    fn note(&mut self, now: &Appearing) {
+    fn note(&mut self, now: &Appearing)
+        ensures grants { self.new.grants.items ≡ self.old.grants.items }
+        ensures sizes { (n k : ℕ) → HasSizes n k self.old → HasSizes n k self.new }
+        ensures still { (one : Appearing) → IsNoted self.old one → IsNoted self.new one }
+        ensures noted { (n k : ℕ) → HasSizes n k self.old → HasPlaces n k now.now → IsNoted self.new now.now }
+        ensures begin { BeginOrBefore self.old.participants self.new.participants (λ by. by ≡ now.now) }
+    {
         note(
             &mut self.participants.threads,
             now.thread,
@@ -122,7 +158,9 @@ impl Seen {
 
 impl Appearing {
     /// Returns who appears by a fact of this mutex, which the record with this number shows.
-    fn by(course: &Course, fact: &Fact, mutex: u32, number: u64) -> Appearing {
+    fn by(course: &Course, fact: &Fact, mutex: u32, number: u64) -> Appearing
+        ensures { result ≡ appearing course.now number fact.now mutex }
+    {
         Appearing {
             number,
             section: fact.section,
@@ -136,31 +174,50 @@ impl Appearing {
 
 /// Lets those take part to the end who own or await something in the trace then, and the mutexes
 /// too.
-fn stay(participants: &mut Participants, course: &Course, sections: &CriticalSections) {
+fn stay(participants: &mut Participants, course: &Course, sections: &CriticalSections)
+    ensures last { LastOn participants.old participants.new }
+    ensures stay { StayToEnd course.now sections.now participants.new }
+{
     let mutexes = participants.mutexes.len().min(u32::MAX as usize) as u32;
     for mutex in 1..mutexes {
         let is = course.mutex(mutex);
-        if let (Some(owner), Some(section)) = (is.owner, is.section) {
-            if sections.keeps(section) {
-                last_to_the_end(&mut participants.threads, owner);
-                last_to_the_end(&mut participants.mutexes, mutex);
-            }
-        }
+        stay_in(participants, sections, is.section, is.owner, Some(mutex));
     }
     let threads = participants.threads.len().min(u32::MAX as usize) as u32;
     for thread in 1..threads {
         let is = course.thread(thread);
-        if let (Some(mutex), Some(section)) = (is.awaits, is.section) {
-            if sections.keeps(section) {
-                last_to_the_end(&mut participants.threads, thread);
-                last_to_the_end(&mut participants.mutexes, mutex);
-            }
+        stay_in(participants, sections, is.section, Some(thread), is.awaits);
+    }
+}
+
+/// Lets a thread and a mutex take part to the end, if there are both and the critical section is in the trace.
+fn stay_in(
+    participants: &mut Participants,
+    sections: &CriticalSections,
+    section: Option<u32>,
+    thread: Option<u32>,
+    mutex: Option<u32>,
+)
+    ensures last { LastOn participants.old participants.new }
+    ensures stay { (s t m : ℕ) → section ≡ Some s → thread ≡ Some t → mutex ≡ Some m → Keeps sections.now s →
+        LastsToEnd participants.new.threads.items t × LastsToEnd participants.new.mutexes.items m }
+{
+    if let (Some(section), Some(thread), Some(mutex)) = (section, thread, mutex) {
+        if sections.keeps(section) {
+            last_to_the_end(&mut participants.threads, thread);
+            last_to_the_end(&mut participants.mutexes, mutex);
         }
     }
 }
 
 /// Lets a thread or a mutex that takes part do so to the end.
-fn last_to_the_end(participants: &mut Vec<Option<Participant>>, one: u32) {
+fn last_to_the_end(participants: &mut Vec<Option<Participant>>, one: u32)
+    ensures size { length participants.new.items ≡ length participants.old.items }
+    ensures still { StillTakePart participants.old.items participants.new.items }
+    ensures begin { StillBegin participants.old.items participants.new.items }
+    ensures lasts { LastsToEnd participants.new.items one }
+    ensures stay { (other : ℕ) → LastsToEnd participants.old.items other → LastsToEnd participants.new.items other }
+{
     if let Some(Some(mut participant)) = participants.get(one as usize).copied() {
         participant.span.last = u64::MAX;
         participants[one as usize] = Some(participant);
@@ -168,7 +225,15 @@ fn last_to_the_end(participants: &mut Vec<Option<Participant>>, one: u32) {
 }
 
 /// Notes that a record shows a thread or a mutex. A later record may have been noted before.
-fn note(participants: &mut Vec<Option<Participant>>, place: u32, number: u64, level: u8) {
+fn note(participants: &mut Vec<Option<Participant>>, place: u32, number: u64, level: u8)
+    ensures size { length participants.new.items ≡ length participants.old.items }
+    ensures still { StillTakePart participants.old.items participants.new.items }
+    ensures noted { place < length participants.old.items → TakesPartAt participants.new.items place number }
+    ensures begin { (one : ℕ) (participant : Participant) →
+        slice_index_or participants.new.items one None ≡ Some participant →
+        BeganSo participants.old.items one participant
+        ⊎ ((one ≡ place) × ((participant.span.first ≡ number) × (participant.level ≡ level))) }
+{
     if place as usize >= participants.len() {
         return;
     }
@@ -186,17 +251,20 @@ fn note(participants: &mut Vec<Option<Participant>>, place: u32, number: u64, le
 }
 
 /// Returns when it takes part if the record with this number shows it, too, at this level.
-fn extended(before: Participant, number: u64, level: u8) -> Participant {
-    if number < before.span.first {
-        let span = Span {
-            first: number,
-            ..before.span
-        };
-        return Participant { span, level };
-    }
+fn extended(before: Participant, number: u64, level: u8) -> Participant
+    ensures first { result.span.first ≡ min before.span.first number }
+    ensures last { result.span.last ≡ max before.span.last number }
+    ensures begin { ((result.span.first ≡ before.span.first) × (result.level ≡ before.level))
+        ⊎ ((result.span.first ≡ number) × (result.level ≡ level)) }
+{
     let span = Span {
+        first: before.span.first.min(number),
         last: before.span.last.max(number),
-        ..before.span
     };
-    Participant { span, ..before }
+    let level = if number < before.span.first {
+        level
+    } else {
+        before.level
+    };
+    Participant { span, level }
 }

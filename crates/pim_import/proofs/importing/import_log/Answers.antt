@@ -18,11 +18,11 @@ returns-clause-findings c =
       sources = c.in_ok-sources.ensures.of_log;
       sections = c.in_ok-sections.sections;
       follows = follows;
-      kept = c.in_ok-sections.ensures c.in_ok-sources.ensures.requests;
+      kept = c.in_ok-sections.ensures.sections c.in_ok-sources.ensures.requests;
       keeps = λ log.
           keeps-on-way c.args.log.now c.args.waits.now _ c.args.options.keeps_all c.in_ok-sections.sections
           (length ids.threads.items) (length ids.mutexes.items) _ log (c.in_ok-sources.ensures.of_log log)
-          (c.in_ok-sections.ensures c.in_ok-sources.ensures.requests) follows;
+          (c.in_ok-sections.ensures.sections c.in_ok-sources.ensures.requests) follows;
     }
 
 pub returns-in_err-built-clause-contradiction : goal.returns-in_err-built-clause-contradiction
@@ -37,7 +37,7 @@ returns-in_err-built-clause-contradiction c =
       order = c.in-Some.ensures.order;
       scale = c.in-Some.ensures.scale;
       sections = c.in_ok-sections.sections;
-      kept = c.in_ok-sections.ensures c.in_ok-sources.ensures.requests;
+      kept = c.in_ok-sections.ensures.sections c.in_ok-sources.ensures.requests;
       contradicts =
           c.in_err-built.ensures.contradiction number (length ids.threads.items) (length ids.mutexes.items) is
           c.in_ok-sources.ensures.requests
