@@ -1,5 +1,5 @@
 -- Why a record contradicts those before it: where a way through a log stops.
-use Rattle.std.proofs.Common.{◌≡◌, ◌⊎◌, ◌-◌, ◌≤◌, ◌∙◌, ℕ, List, [], ◌∷◌, Option, Some, None, true, slice_get}
+use Rattle.std.proofs.Common.{◌≡◌, ◌⊎◌, ◌-◌, ◌≤◌, ◌∙◌, ℕ, List, [], ◌∷◌, Option, Some, None, slice_get}
 use Rattle.std.proofs.Common.{ap, subst, sym, refl, inl, inr}
 use Rattle.std.proofs.lemmas.List.Elements.{All-nil}
 use Rattle.std.specs.Option.{option_map_or, unwrap_or}
@@ -22,7 +22,7 @@ use Rattle.pim_builder.specs.declared.builder.Context.{Context}
 use Rattle.pim_builder.specs.Views.{BuilderState}
 use Rattle.pim_builder.specs.declared.fault.ImportFault.{ImportFault}
 use Rattle.pim_builder.specs.declared.fault.ImportFault.TheVariants.{Contradiction}
-use Rattle.pim_import.specs.Contradicting.{ContradictsAt, StopsShowing}
+use Rattle.pim_import.specs.Contradicting.{Contradicts, ContradictsAt}
 use Rattle.pim_import.specs.Following.{HasAdded, HasFollowed, IsLacking, IsOfThread, IsSpared, Knows}
 use Rattle.pim_import.specs.Following.{facts_of, stage_of}
 use Rattle.pim_import.specs.declared.critical_sections.CriticalSections.{CriticalSections}
@@ -58,12 +58,11 @@ knows-none context n k sections found builder finds owns hands orders blocking s
       trace = shown;
     }
 
--- a course contradicts what was before by itself, or as soon as it is known what was found of the facts before
+-- as soon as it is known what was found of the facts before, a course contradicts what was before
 abbrev pub Fails : Context → ℕ → ℕ → CriticalSections → Course → ℕ → Findings → BuilderState → Type 0
 Fails context n k sections course time found builder =
-    (course.is_contradiction ≡ true)
-    ⊎ ((facts : List Moment) → Knows context n k sections facts found builder →
-    StopsShowing context n k sections course time facts)
+    (facts : List Moment) → Knows context n k sections facts found builder →
+    Contradicts context n k sections course time facts
 
 -- the way stops at the next record
 pub contradicts-record : (bytes : List ℕ) (context : Context) (sections : CriticalSections) (n k number last time : ℕ)
@@ -85,10 +84,11 @@ contradicts-record bytes context sections n k number last time put_at old new fo
         f.way,
       );
       reached = refl;
-      why = elim fails [
-        | inl is ↦ inl is
-        | inr stops ↦ inr (stops (facts_of context.sources.now (stage_of (number - 1) last f.time old ∷ f.before)) f.knows)
-      ];
+      agree = f.agree;
+      found = found;
+      builder = builder;
+      knows = f.knows;
+      why = fails (facts_of context.sources.now (stage_of (number - 1) last f.time old ∷ f.before)) f.knows;
     }
 
 -- the way stops at the next request
@@ -97,11 +97,10 @@ pub contradicts-request : (bytes : List ℕ) (context : Context) (sections : Cri
     slice_get context.sources.now.requests.list.items old.added ≡ Some request → IsBehind number request →
     put_at ≡ option_map_or (λ one. one.time) (slice_get context.sources.now.requests.list.items old.added) None →
     time ≡ unwrap_or put_at last → Adds context.sources.now old new →
-    ((facts : List Moment) → Knows context n k sections facts found builder →
-    StopsShowing context n k sections new.course time facts) →
+    Fails context n k sections new.course time found builder →
     HasFollowed bytes context sections n k number last old found builder → ContradictsAt bytes context sections n k number
 contradicts-request bytes context sections n k number last time put_at request old new found builder
-    next behind put is_time adds stops f =
+    next behind put is_time adds fails f =
     let its : Option ℕ = request.time in
     let is_put : put_at ≡ its =
     put ∙ ap (λ (one : Option Request). option_map_or (λ (r : Request). r.time) one None) next in
@@ -114,5 +113,9 @@ contradicts-request bytes context sections n k number last time put_at request o
         f.way,
       );
       reached = refl;
-      why = inr (stops (facts_of context.sources.now (stage_of number last f.time old ∷ f.before)) f.knows);
+      agree = f.agree;
+      found = found;
+      builder = builder;
+      knows = f.knows;
+      why = fails (facts_of context.sources.now (stage_of number last f.time old ∷ f.before)) f.knows;
     }

@@ -4,7 +4,7 @@ use Rattle.std.proofs.Common.{length, get_or, take, map, reverse, slice_get, ap,
 use Rattle.std.proofs.Common.{Some, None, Result, Ok, Err}
 use Rattle.std.proofs.lemmas.Bool.{lt-ltb}
 use Rattle.std.proofs.lemmas.List.{map-append, reverse-append, take_more}
-use Rattle.std.proofs.lemmas.List.Elements.{All-cons}
+use Rattle.std.proofs.lemmas.List.Elements.{All-cons, All-nil}
 use Rattle.std.specs.Option.{option_map_or, unwrap_or}
 use Rattle.std.specs.Prelude.{IfOk, IfSome, slice_index_or}
 use Rattle.pim_course.specs.Going.{HasSameSize}
@@ -34,11 +34,11 @@ use Rattle.pim_log.specs.Headers.{end_of, header_of}
 use Rattle.pim_findings.specs.declared.findings.Findings.{Findings}
 use Rattle.pim_import.proofs.Adding.{all-added}
 use Rattle.pim_import.proofs.Going.{Adds, goes-by-record, goes-by-request}
-use Rattle.pim_import.specs.Following.{ArePlaced, FollowsLog, HasAdded, HasFollowed, IsLacking, IsOfThread, IsSpared, Knows, Stage}
+use Rattle.pim_import.specs.Following.{Agrees, ArePlaced, FollowsLog, HasAdded, HasFollowed, IsLacking, IsOfThread, IsSpared}
 use Rattle.pim_builder.specs.Shown.{AreShown, AreShownIn, Dated}
 use Rattle.pim_builder.specs.declared.builder.Context.{Context}
 use Rattle.pim_builder.specs.Views.{BuilderState}
-use Rattle.pim_import.specs.Following.{facts_of, is_kept, kept_of, moment_of, moments_of, stage_of, dated}
+use Rattle.pim_import.specs.Following.{Knows, Stage, facts_of, is_kept, kept_of, moment_of, moments_of, stage_of, dated}
 use Rattle.pim_import.specs.LeftOut.{IsKept, Keeps}
 use Rattle.pim_import.specs.declared.critical_sections.CriticalSections.{CriticalSections}
 
@@ -189,6 +189,8 @@ follows-begin bytes context sections n k walk found builder begins none knows =
       time = 0;
       before = [];
       way = record { number = refl; record_time = refl; added = none; course = begins };
+      agree = All-cons Agrees (stage_of 0 0 0 walk) [] (ap (λ details. details.is_contradiction) begins.details)
+          (All-nil Agrees);
       knows =
           subst (λ shown. Knows context n k sections (moments_of context.sources.now walk.course 0 shown ++ []) found
           builder)
@@ -200,13 +202,14 @@ pub follows-record : (bytes : List ℕ) (context : Context) (sections : Critical
     (put_at : Option ℕ) (old new : Walk) (found looked : Findings) (before after : BuilderState) → 1 ≤ number →
     time ≡ unwrap_or put_at last → IsTimeOf bytes number put_at → new.added ≡ old.added → HasSameSize old.course new.course →
     IsLacking bytes number old.course new.course ⊎ GoesBy bytes context.sources.now number old.course new.course →
+    new.course.is_contradiction ≡ false →
     ((facts : List Moment) → Knows context n k sections facts found before →
     Knows context n k sections (moments_of context.sources.now new.course time (shown_in new.course.shown) ++ facts)
     looked after) →
     HasAdded bytes context sections n k (number - 1) last old found before →
     HasFollowed bytes context sections n k number time new looked after
 follows-record bytes context sections n k number last time put_at old new found looked before after
-    above is_time is_put_at added size shown step has =
+    above is_time is_put_at added size shown agrees step has =
     let f = has.followed in
     record {
       time = time;
@@ -216,6 +219,8 @@ follows-record bytes context sections n k number last time put_at old new found 
             is_time added size shown),
         f.way,
       );
+      agree = All-cons Agrees (stage_of number time time new) (stage_of (number - 1) last f.time old ∷ f.before) agrees
+          f.agree;
       knows = step (facts_of context.sources.now (stage_of (number - 1) last f.time old ∷ f.before)) f.knows;
     }
 
@@ -224,14 +229,14 @@ pub follows-request : (bytes : List ℕ) (context : Context) (sections : Critica
     (put_at : Option ℕ) (request : Request) (old new : Walk) (found looked : Findings) (before after : BuilderState) →
     slice_get context.sources.now.requests.list.items old.added ≡ Some request → IsBehind number request →
     put_at ≡ option_map_or (λ one. one.time) (slice_get context.sources.now.requests.list.items old.added) None →
-    time ≡ unwrap_or put_at last → Adds context.sources.now old new →
+    time ≡ unwrap_or put_at last → Adds context.sources.now old new → new.course.is_contradiction ≡ false →
     ((facts : List Moment) → Knows context n k sections facts found before →
     Knows context n k sections (moments_of context.sources.now new.course time (shown_in new.course.shown) ++ facts)
     looked after) →
     HasFollowed bytes context sections n k number last old found before →
     HasFollowed bytes context sections n k number last new looked after
 follows-request bytes context sections n k number last time put_at request old new found looked before after
-    next behind put is_time adds step f =
+    next behind put is_time adds agrees step f =
     let its : Option ℕ = request.time in
     let is_put : put_at ≡ its =
     put ∙ ap (λ (one : Option Request). option_map_or (λ (r : Request). r.time) one None) next in
@@ -243,6 +248,7 @@ follows-request bytes context sections n k number last time put_at request old n
             (is_time ∙ ap (λ (o : Option ℕ). unwrap_or o last) is_put) adds),
         f.way,
       );
+      agree = All-cons Agrees (stage_of number last time new) (stage_of number last f.time old ∷ f.before) agrees f.agree;
       knows = step (facts_of context.sources.now (stage_of number last f.time old ∷ f.before)) f.knows;
     }
 
@@ -273,6 +279,7 @@ follows-log bytes context sections n k end last walk found builder built is plac
       way = f.way;
       number = ap (λ n. n - 1) is;
       added = all-added bytes context.sources.now.requests.list.items end walk.added is placed has.added;
+      agree = f.agree;
       found = record {
         waits = waits (kept_of sections facts) f.knows.finds;
         owns = owns-kept k (kept_of sections facts) found built.findings same f.knows.owns;

@@ -9,6 +9,7 @@ pub mod OneWay
 pub mod Waiting
 pub mod Numbers
 pub mod Contradicting
+pub mod Refusing
 pub mod Stopping
 pub mod Telling
 pub mod Lasting

@@ -1,19 +1,15 @@
 -- Why an import names a record that contradicts those before it.
-use Rattle.std.specs.Prelude.{◌≡◌, ◌⊎◌, ◌<◌, ℕ, Bool, true, List, ◌∷◌, ◌++◌, length}
-use Rattle.pim_log.specs.Logs.{IsLog}
+use Rattle.std.specs.Prelude.{◌≡◌, ◌⊎◌, ◌<◌, ℕ, true, List, ◌∷◌, ◌++◌, All}
 use Rattle.pim_facts.specs.Shown.{shown_in}
 use Rattle.pim_facts.specs.declared.fact.Fact.{Fact}
 use Rattle.pim_course.specs.declared.course.Course.{Course}
-use Rattle.pim_requests.specs.declared.waits.Wait.{Wait}
 use Rattle.pim_findings.specs.Waits.{Moment}
 use Rattle.pim_findings.specs.declared.findings.Findings.{Findings}
-use Rattle.pim_replay.specs.Priorities.{IsOnScale, KeepsOrder}
-use Rattle.pim_builder.specs.Numbered.{HaveNumbers}
 use Rattle.pim_builder.specs.Pieces.{HasRoom}
 use Rattle.pim_builder.specs.Refusing.{CannotShow}
 use Rattle.pim_builder.specs.declared.builder.Context.{Context}
 use Rattle.pim_builder.specs.Views.{BuilderState}
-use Rattle.pim_import.specs.Following.{AreOfLog, IsWay, KeepsThoseOfLog, Knows, Stage, facts_of, moments_of}
+use Rattle.pim_import.specs.Following.{Agrees, IsWay, Knows, Stage, facts_of, moments_of}
 use Rattle.pim_import.specs.LeftOut.{IsKept, MayBeLeftOut}
 use Rattle.pim_import.specs.declared.critical_sections.CriticalSections.{CriticalSections}
 
@@ -38,28 +34,21 @@ pub record StopsShowing (context : Context) (n k : ℕ) (sections : CriticalSect
   pub knows : Knows context n k sections (moments_of context.sources.now course time done ++ facts) found builder
   pub unfit : IsUnfit context n sections course time fact builder
 
+-- behind these facts the course contradicts what was before, or a fact that it shows doesn't fit the trace
+abbrev pub Contradicts : Context → ℕ → ℕ → CriticalSections → Course → ℕ → List Moment → Type 0
+Contradicts context n k sections course time facts =
+    (course.is_contradiction ≡ true) ⊎ StopsShowing context n k sections course time facts
+
 -- A way leads through a log to the record with this number, or to a request behind it, and that contradicts what was
--- before: by the course, or since a fact that it shows doesn't fit the trace.
+-- before. It is the first to do so: at each stage before, the course agrees with what was before, and the facts up to there
+-- are known, so that each of them fits.
 pub record ContradictsAt (bytes : List ℕ) (context : Context) (sections : CriticalSections) (n k number : ℕ) : Type 0 where
   pub last : Stage
   pub before : List Stage
   pub way : IsWay bytes context.sources.now last before
   pub reached : last.number ≡ number
-  pub why :
-      (last.course.is_contradiction ≡ true)
-      ⊎ StopsShowing context n k sections last.course last.time (facts_of context.sources.now before)
-
--- The record with this number of a log contradicts those before it, by what is found first, the critical sections that
--- the facts of the log must keep, or all, the priorities of its levels, and participants who have numbers. Who they are
--- isn't said.
-pub record IsContradicted (bytes : List ℕ) (waits : List Wait) (is_all : Bool) (number : ℕ) : Type 0 where
-  pub context : Context
-  pub sources : IsLog bytes → AreOfLog bytes waits context.sources.now
-  pub threads : HaveNumbers context.participants.now.threads.items context.numbering.now.threads
-  pub mutexes : HaveNumbers context.participants.now.mutexes.items context.numbering.now.mutexes
-  pub order : KeepsOrder context.sources.now.ids.levels context.priorities.now
-  pub scale : IsOnScale context.sources.now.ids.levels context.priorities.now
-  pub sections : CriticalSections
-  pub kept : KeepsThoseOfLog bytes context.sources.now is_all sections
-  pub contradicts : ContradictsAt bytes context sections (length context.sources.now.ids.threads.items)
-      (length context.sources.now.ids.mutexes.items) number
+  pub agree : All Agrees before
+  pub found : Findings
+  pub builder : BuilderState
+  pub knows : Knows context n k sections (facts_of context.sources.now before) found builder
+  pub why : Contradicts context n k sections last.course last.time (facts_of context.sources.now before)

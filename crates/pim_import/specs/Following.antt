@@ -1,9 +1,8 @@
 -- The way through a log, and what is found of the facts that it shows.
-use Rattle.std.specs.Prelude.{◌≡◌, ◌⊎◌, ◌+◌, ◌-◌, ◌<◌, ◌≤◌, ℕ, ◌||◌, Bool, true, List, [], ◌∷◌, ◌++◌, map}
+use Rattle.std.specs.Prelude.{◌≡◌, ◌⊎◌, ◌+◌, ◌-◌, ◌<◌, ◌≤◌, ℕ, ◌||◌, Bool, true, false, List, [], ◌∷◌, ◌++◌, map}
 use Rattle.std.specs.Prelude.{reverse, filter, length, slice_get, slice_index_or, Option, Some, All}
 use Rattle.std.specs.Option.{option_map_or, unwrap_or}
 use Rattle.pim_log.specs.Headers.{header_of, end_of}
-use Rattle.pim_log.specs.Logs.{IsLog}
 use Rattle.pim_facts.specs.Covering.{Covers, HasFewThreads}
 use Rattle.pim_facts.specs.Ending.{EndsAt}
 use Rattle.pim_facts.specs.Shown.{shown_in}
@@ -43,7 +42,6 @@ use Rattle.pim_import.specs.KeptSections.{KeepsThoseOf, room_of}
 use Rattle.pim_import.specs.LeftOut.{IsKept, MayBeLeftOut}
 use Rattle.pim_import.specs.declared.critical_sections.CriticalSections.{CriticalSections}
 use Rattle.pim_import.specs.declared.importing.Built.{Built}
-use Rattle.pim_import.specs.declared.importing.Imported.{Imported}
 
 -- How far a way through a log has come: the number of the last record, the time of the last one that has a time, how many
 -- requests that the log lacks were added, the time of what the way went by last, and the course behind that.
@@ -111,6 +109,10 @@ IsWay bytes sources last [] = IsBegin sources last
 IsWay bytes sources last (from ∷ before) =
     (GoesByRecord bytes sources from last ⊎ GoesByRequest sources from last) × IsWay bytes sources from before
 
+-- what leads to a stage doesn't contradict what was before, by the course
+abbrev pub Agrees : Stage → Type 0
+Agrees stage = stage.course.is_contradiction ≡ false
+
 -- what a fact says at this time
 abbrev pub moment_of : Sources → Course → ℕ → Fact → Moment
 moment_of sources course time fact = record { fact = fact; time = time; course = course; sources = sources }
@@ -166,13 +168,14 @@ abbrev pub stage_of : ℕ → ℕ → ℕ → Walk → Stage
 stage_of number record_time time walk =
     record { number = number; record_time = record_time; added = walk.added; time = time; course = walk.course }
 
--- A walk went through a log up to the record with this number and time, and the findings and the trace are those of the
--- facts on its way.
+-- A walk went through a log up to the record with this number and time, no course on its way contradicts what was before,
+-- and the findings and the trace are those of the facts on its way.
 pub record HasFollowed (bytes : List ℕ) (context : Context) (sections : CriticalSections) (n k number record_time : ℕ)
     (walk : Walk) (found : Findings) (builder : BuilderState) : Type 0 where
   pub time : ℕ
   pub before : List Stage
   pub way : IsWay bytes context.sources.now (stage_of number record_time time walk) before
+  pub agree : All Agrees (stage_of number record_time time walk ∷ before)
   pub knows : Knows context n k sections
       (facts_of context.sources.now (stage_of number record_time time walk ∷ before)) found builder
 
@@ -203,9 +206,9 @@ pub record AreFound (ids : Ids) (n k : ℕ) (sections : CriticalSections) (ended
   pub threads : All (IsOfThread n) facts
   pub spared : All (IsSpared sections) facts
 
--- There is a way through all records of a log and all requests that it lacks, such that what is found is what the facts
--- on the way show, the trace shows those of them that are kept, in turn, by steps at their times, and the course is that
--- behind the last of them.
+-- There is a way through all records of a log and all requests that it lacks, such that no course on it contradicts what was
+-- before, what is found is what the facts on the way show, the trace shows those of them that are kept, in turn, by steps at
+-- their times, and the course is that behind the last of them.
 pub record FollowsLog (bytes : List ℕ) (context : Context) (sections : CriticalSections) (n k : ℕ) (built : Built)
     : Type 0 where
   pub last : Stage
@@ -213,6 +216,7 @@ pub record FollowsLog (bytes : List ℕ) (context : Context) (sections : Critica
   pub way : IsWay bytes context.sources.now last before
   pub number : last.number ≡ end_of (header_of bytes) - 1
   pub added : last.added ≡ length context.sources.now.requests.list.items
+  pub agree : All Agrees (last ∷ before)
   pub found : AreFound context.sources.now.ids n k sections context.sources.now.ids.ended
       (facts_of context.sources.now (last ∷ before)) last.course built.findings
   pub trace : AreShownIn context (dated (kept_of sections (facts_of context.sources.now (last ∷ before))))
@@ -241,23 +245,3 @@ pub record AreOfLog (bytes : List ℕ) (waits : List Wait) (sources : Sources) :
   pub asked : FindsAskedFrom bytes sources.ids sources.next_owners 1
   pub requests : All (IsShown bytes sources.ids waits) sources.requests.list.items
   pub calls : HasThoseOfCalls bytes sources.ids waits sources.requests.list.items
-
--- an import was made from this: its sources, the numbers of those who take part, and their priorities
-pub record IsMadeFrom (context : Context) (imported : Imported) : Type 0 where
-  pub sources : imported.sources ≡ context.sources.now
-  pub numbering : imported.numbering ≡ context.numbering.now
-  pub priorities : imported.priorities ≡ context.priorities.now
-
--- The findings are those of the log, with the threads and mutexes that it names, of the facts in the trace: those of the
--- critical sections that the facts on the same way must keep, or all. The trace shows these facts, in turn, by steps at
--- their times, and by the numbers and the priorities of the import.
-pub record IsOfLog (bytes : List ℕ) (waits : List Wait) (is_all : Bool) (imported : Imported) : Type 0 where
-  pub context : Context
-  pub made : IsMadeFrom context imported
-  pub sources : IsLog bytes → AreOfLog bytes waits context.sources.now
-  pub sections : CriticalSections
-  pub follows : FollowsLog bytes context sections (length context.sources.now.ids.threads.items)
-      (length context.sources.now.ids.mutexes.items) imported.built
-  pub kept : KeepsThoseOfLog bytes context.sources.now is_all sections
-  pub keeps : IsLog bytes → KeepsThoseOf is_all (room_of bytes context.sources.now)
-      (facts_of context.sources.now (follows.last ∷ follows.before)) sections

@@ -5,5 +5,6 @@ pub mod LeftOut
 pub mod Numbers
 pub mod Waiting
 pub mod Contradicting
+pub mod Imports
 pub mod TakingPart
 pub mod Seeing

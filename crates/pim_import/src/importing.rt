@@ -1,14 +1,16 @@
 //! From a log to the pieces of a trace.
-ghost use Rattle.std.specs.Prelude.{◌≡◌, ◌⊎◌, ◌-◌, ◌++◌, ◌∷◌, [], ℕ, List, IfOk, IfErr, IsTrue, All, false};
+ghost use Rattle.std.specs.Prelude.{◌≡◌, ◌⊎◌, ◌-◌, ◌++◌, ◌∷◌, [], ℕ, List, Bool, IfOk, IfErr, IsTrue, All, false};
 ghost use Rattle.pim_log.specs.Headers.{header_of, end_of};
 ghost use Rattle.pim_log.specs.Logs.{IsLog};
 ghost use Rattle.pim_course.specs.Reading.{Begins};
 ghost use Rattle.pim_course.specs.Requests.{IsInOrder};
+ghost use Rattle.pim_builder.specs.Numbered.{HasRoomFor};
 ghost use Rattle.pim_builder.specs.Faults.{IsContradiction, NamesOneOf, NamesOnly};
 ghost use Rattle.pim_findings.specs.Waits.{Moment};
 ghost use Rattle.pim_builder.specs.declared.fault.ImportFault.TheVariants as import;
-ghost use Rattle.pim_import.specs.Contradicting.{ContradictsAt, IsContradicted, IsUnfit, StopsShowing};
-ghost use Rattle.pim_import.specs.Following.{AreAdded, AreOfLog, ArePlaced, FollowsLog, HasAdded, HasFollowed, IsOfLog, Knows};
+ghost use Rattle.pim_import.specs.Contradicting.{Contradicts, ContradictsAt, IsUnfit};
+ghost use Rattle.pim_import.specs.Imports.{IsOfLog, IsOfTrace, IsRefused};
+ghost use Rattle.pim_import.specs.Following.{AreAdded, AreOfLog, ArePlaced, FollowsLog, HasAdded, HasFollowed, Knows};
 ghost use Rattle.pim_import.specs.Following.{moment_of, moments_of};
 ghost use Rattle.pim_facts.specs.Shown.{shown_in};
 ghost use Rattle.pim_builder.specs.Pieces.{AreJoined, HasTimes};
@@ -72,11 +74,11 @@ pub struct Imported {
 ///
 /// # Errors
 ///
-/// Returns `Contradiction` with the number of the first record that contradicts those before it, or
-/// tells of a thread with a number above all of the log's, `TooManyThreads` with the number of the first record of
-/// a thread above [`MAX_THREADS`](pim_facts::MAX_THREADS), `Crowded` if more threads or mutexes take
-/// part at one time than a trace has numbers for, `TooManyPriorities` if the threads and ceilings
-/// have more than 99 of them, and `Memory` if out of memory.
+/// Returns `Contradiction` with the number of the first record that contradicts those before it, or shows a fact of a thread
+/// that isn't the log's, `TooManyThreads` with the number of the first record of a thread above
+/// [`MAX_THREADS`](pim_facts::MAX_THREADS), `Crowded` if more than 256 threads take part at one time or the mutexes need
+/// more than 256 numbers (see [`Numbering::of`]), `TooManyPriorities` if the threads and ceilings have more than 99 of them,
+/// and `Memory` if out of memory. specs/Imports.antt says what is proved of each.
 #[tactic(auto, using(crate::proofs::Naming::names_none_of))]
 pub fn import_log(
     alloc: Global,
@@ -89,8 +91,7 @@ pub fn import_log(
     ensures times { IfOk result (λ imported. All HasTimes imported.built.pieces.items) }
     ensures findings { IfOk result (IsOfLog log.now waits.now options.keeps_all) }
     ensures fault { IfErr result (NamesOneOf (end_of (header_of log.now))) }
-    ensures contradiction { IfErr result (λ fault. (number : ℕ) → fault ≡ import.Contradiction number →
-        IsContradicted log.now waits.now options.keeps_all number) }
+    ensures refused { IfErr result (IsRefused log.now waits.now options.keeps_all) }
 {
     let sources = sources_of(alloc, log, waits)?;
     let (sections, participants) = CriticalSections::of(alloc, log, &sources, options.keeps_all)?;
@@ -119,7 +120,7 @@ fn sources_of(alloc: Global, log: &Log, waits: &[Wait]) -> Result<Sources, Impor
     ensures of_log { IsLog log.now → IfOk result (AreOfLog log.now waits.now) }
     ensures requests { IfOk result (λ sources. ArePlaced log.now sources.requests.list.items) }
     ensures fault { IfErr result (NamesOneOf (end_of (header_of log.now))) }
-    ensures none { IfErr result (λ fault. ¬ IsContradiction fault) }
+    ensures refused { (is_all : Bool) → IfErr result (IsRefused log.now waits.now is_all) }
 {
     let (ids, named) = match Ids::of(alloc, log) {
         Ok(found) => found,
@@ -139,7 +140,7 @@ fn sources_of(alloc: Global, log: &Log, waits: &[Wait]) -> Result<Sources, Impor
 }
 
 /// Makes the steps.
-#[tactic(auto, using(crate::proofs::Naming::names_none_of))]
+#[tactic(auto, using(crate::proofs::Naming::names_none_of, crate::proofs::Naming::memory_of_trace))]
 fn build(
     alloc: Global,
     log: &Log,
@@ -158,6 +159,7 @@ fn build(
         ArePlaced log.now context.now.sources.now.requests.list.items →
         ((builder : BuilderState) → AreShown context.now [] builder → Knows context.now n k sections.now [] findings builder) →
         ContradictsAt log.now context.now sections.now n k number) }
+    ensures trace { HasRoomFor context.now.numbering.now → IfErr result IsOfTrace }
 {
     let sources = context.sources;
     let mut builder = TraceBuilder::new(alloc, context)?;
@@ -185,6 +187,7 @@ fn build(
 }
 
 /// Makes the steps of all records below this number.
+#[tactic(auto, using(crate::proofs::Naming::only_of_trace))]
 fn play(
     log: &Log,
     context: &Context,
@@ -205,14 +208,12 @@ fn play(
         ArePlaced log.now context.now.sources.now.requests.list.items →
         Knows context.now n k sections.now [] findings.old builder.old →
         ContradictsAt log.now context.now sections.now n k number) }
+    ensures trace { IfErr result IsOfTrace }
 {
     let mut tally = Tally::new();
     let mut time = 0;
     for number in 1..end {
         let moment = walk.read(log, context.sources, number);
-        if walk.course.is_contradiction {
-            return Err(ImportFault::Contradiction(number));
-        }
         time = moment.time.unwrap_or(time);
         let now = Now { number, time };
         let is_used = show(context, sections, walk, builder, findings, &now)?;
@@ -276,11 +277,15 @@ fn show(
         Knows context.now n k sections.now facts findings.old builder.old →
         let shown = moments_of context.now.sources.now walk.now.course now.now.time (shown_in walk.now.course.shown) in
         Knows context.now n k sections.now (shown ++ facts) findings.new builder.new) }
+    ensures agrees { IfOk result (λ _. walk.now.course.is_contradiction ≡ false) }
     ensures fault { IfErr result (NamesOnly now.now.number) }
     ensures stops { IfErr result (λ fault. IsContradiction fault → (n k : ℕ) (facts : List Moment) →
         Knows context.now n k sections.now facts findings.old builder.old →
-        StopsShowing context.now n k sections.now walk.now.course now.now.time facts) }
+        Contradicts context.now n k sections.now walk.now.course now.now.time facts) }
 {
+    if walk.course.is_contradiction {
+        return Err(ImportFault::Contradiction(now.number));
+    }
     let mut is_used = false;
     let shown = walk.shown();
     for fact in shown {

@@ -32,7 +32,8 @@ loop-request-preserved c =
             details = c.add.ensures.details;
             told = c.add.ensures.told;
           })
-          (c.in_ok-_is_used.ensures.finds n k) (c.loop-request.invariant.follows bytes n k followed);
+          c.in_ok-_is_used.ensures.agrees (c.in_ok-_is_used.ensures.finds n k)
+          (c.loop-request.invariant.follows bytes n k followed);
     }
 
 pub returns-clause-added : goal.returns-clause-added

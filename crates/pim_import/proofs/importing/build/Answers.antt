@@ -1,4 +1,4 @@
-use Rattle.std.proofs.Common.{◌∙◌, ap, refl, rules}
+use Rattle.std.proofs.Common.{◌∙◌, ap, refl, rules, sym}
 use Rattle.std.proofs.lemmas.Result.{err_from_is_err_and}
 use Rattle.pim_log.specs.Headers.{end_of}
 use Rattle.pim_findings.specs.Orders.{nested_of}
@@ -53,4 +53,19 @@ pub returns-in_err-pieces-clause-contradiction : goal.returns-in_err-pieces-clau
 returns-in_err-pieces-clause-contradiction c =
     let p = err_from_is_err_and c.from_residual-in_err-pieces.result c.from_residual-in_err-pieces.ensures.1 in
     rw (p.1, p.2) (λ number n k is placed knows.
-    absurd (names-none-not c.in_err-pieces.field-0.0 number c.in_err-pieces.ensures.fault is))
+    absurd (names-none-not Memory number tt (sym c.in_err-pieces.ensures.fault ∙ is)))
+
+pub returns-in_err-walk-clause-trace : goal.returns-in_err-walk-clause-trace
+returns-in_err-walk-clause-trace c =
+    let p = err_from_is_err_and c.from_residual-in_err-walk.result c.from_residual-in_err-walk.ensures.1 in
+    rw (p.1, p.2) (λ room. tt)
+
+pub returns-in_err-tally-clause-trace : goal.returns-in_err-tally-clause-trace
+returns-in_err-tally-clause-trace c =
+    let p = err_from_is_err_and c.from_residual-in_err-tally.result c.from_residual-in_err-tally.ensures.1 in
+    rw (p.1, p.2) (λ room. c.in_err-tally.ensures.trace)
+
+pub returns-in_err-end-clause-trace : goal.returns-in_err-end-clause-trace
+returns-in_err-end-clause-trace c =
+    let p = err_from_is_err_and c.from_residual-in_err-end.result c.from_residual-in_err-end.ensures.1 in
+    rw (p.1, p.2) (λ room. tt)

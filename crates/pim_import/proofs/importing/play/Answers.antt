@@ -1,9 +1,8 @@
-use Rattle.std.proofs.Common.{◌≡◌, ◌+◌, ◌-◌, subst, sym, arith, inl, inr, refl}
+use Rattle.std.proofs.Common.{◌≡◌, ◌+◌, ◌-◌, subst, sym, arith}
 use Rattle.std.proofs.lemmas.Result.{err_from_is_err_and}
 use Rattle.pim_import.proofs.Adding.{none-added}
 use Rattle.pim_import.proofs.Contradicting.{contradicts-record, is-contradiction, only-one}
 use Rattle.pim_import.proofs.Following.{follows-begin, follows-record}
-use Rattle.pim_builder.specs.declared.fault.ImportFault.TheVariants.{Contradiction}
 use Rattle.pim_import.specs.Contradicting.{ContradictsAt}
 use Rattle.pim_import.specs.Following.{AreAdded, HasAdded}
 use Rattle.pim_import.proofs.importing.play.Goals as goal
@@ -50,7 +49,8 @@ loop-number-preserved c =
                 c.show.new.findings
                 c.loop-number.builder c.show.new.builder c.loop-number.auto.number c.unwrap_or-time.ensures
                 c.read-moment.ensures.time c.read-moment.ensures.added
-                c.read-moment.ensures.size c.read-moment.ensures.shown (c.in_ok-is_used.ensures.finds n k) has);
+                c.read-moment.ensures.size c.read-moment.ensures.shown c.in_ok-is_used.ensures.agrees
+                (c.in_ok-is_used.ensures.finds n k) has);
             added = after.added placed.order
                 (subst (λ added. AreAdded sources.requests.list.items (c.loop-number.number - 1) added)
                 (sym c.read-moment.ensures.added) has.added);
@@ -66,18 +66,6 @@ returns-clause-follows c n k begins none placed knows = (
       (c.loop-number.invariant.follows n k begins none placed knows),
 )
 
-pub returns-then-walk-clause-contradiction : goal.returns-then-walk-clause-contradiction
-returns-then-walk-clause-contradiction c number n k is begins none placed knows =
-    let log = c.args.log.now in
-    let context = c.args.context.now in
-    let sections = c.args.sections.now in
-    subst (ContradictsAt log context sections n k)
-    (sym (only-one (Contradiction c.loop-number.number) number c.loop-number.number is refl))
-    (contradicts-record log context sections n k c.loop-number.number c.loop-number.time _ c.read-moment.result.time
-    c.loop-number.walk c.read-moment.new.self c.loop-number.findings c.loop-number.builder c.loop-number.auto.number refl
-    c.read-moment.ensures.time c.read-moment.ensures.added c.read-moment.ensures.size c.read-moment.ensures.shown
-    (inl c.if-walk.true) (c.loop-number.invariant.follows n k begins none placed knows))
-
 pub returns-in_err-is_used-clause-contradiction : goal.returns-in_err-is_used-clause-contradiction
 returns-in_err-is_used-clause-contradiction c =
     let log = c.args.log.now in
@@ -92,7 +80,7 @@ returns-in_err-is_used-clause-contradiction c =
     c.read-moment.result.time c.loop-number.walk c.read-moment.new.self c.loop-number.findings c.loop-number.builder
     c.loop-number.auto.number c.unwrap_or-time.ensures c.read-moment.ensures.time c.read-moment.ensures.added
     c.read-moment.ensures.size c.read-moment.ensures.shown
-    (inr (told.stops (is-contradiction c.in_err-is_used.field-0.0 number is) n k))
+    (told.stops (is-contradiction c.in_err-is_used.field-0.0 number is) n k)
     (c.loop-number.invariant.follows n k begins none placed knows)))
 
 pub returns-in_err-add_requests-clause-contradiction : goal.returns-in_err-add_requests-clause-contradiction
@@ -111,5 +99,6 @@ returns-in_err-add_requests-clause-contradiction c =
     c.read-moment.result.time c.loop-number.walk c.read-moment.new.self c.loop-number.findings c.show.new.findings
     c.loop-number.builder c.show.new.builder c.loop-number.auto.number c.unwrap_or-time.ensures
     c.read-moment.ensures.time c.read-moment.ensures.added
-    c.read-moment.ensures.size c.read-moment.ensures.shown (c.in_ok-is_used.ensures.finds n k)
+    c.read-moment.ensures.size c.read-moment.ensures.shown c.in_ok-is_used.ensures.agrees
+    (c.in_ok-is_used.ensures.finds n k)
     (c.loop-number.invariant.follows n k begins none placed knows))))

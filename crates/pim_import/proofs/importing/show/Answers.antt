@@ -1,4 +1,4 @@
-use Rattle.std.proofs.Common.{ℕ, ◌≡◌, ◌⊎◌, ◌||◌, ◌∙◌, ◌++◌, List, sym, Bool, false, true, refl, subst, All, rules}
+use Rattle.std.proofs.Common.{ℕ, ◌≡◌, ◌⊎◌, ◌||◌, ◌∙◌, ◌++◌, List, sym, Bool, false, true, refl, subst, All, inr, rules}
 use lib.Seq.{take_all}
 use Rattle.std.proofs.lemmas.List.Elements.{All-more}
 use Rattle.pim_builder.proofs.Justifying.{of_fault}
@@ -9,7 +9,7 @@ use Rattle.pim_facts.specs.declared.fact.Fact.{Fact}
 use Rattle.pim_findings.specs.Waits.{Moment}
 use Rattle.pim_import.proofs.Following.{moments-more}
 use Rattle.pim_import.proofs.Stopping.{stops-at}
-use Rattle.pim_import.specs.Contradicting.{StopsShowing}
+use Rattle.pim_import.specs.Contradicting.{Contradicts}
 use Rattle.pim_import.specs.Following.{Knows, moments_of}
 use Rattle.pim_import.proofs.importing.show.Goals as goal
 
@@ -71,10 +71,10 @@ returns-in_err-is_used-clause-stops c =
     of_fault
     (λ fault. IsContradiction fault → (n k : ℕ) (facts : List Moment) →
     Knows context n k c.args.sections.now facts c.args.findings.now c.args.builder.now →
-    StopsShowing context n k c.args.sections.now course c.args.now.now.time facts)
+    Contradicts context n k c.args.sections.now course c.args.now.now.time facts)
     c.in_err-is_used.field-0.0 c.from_residual.result c.from_residual.ensures.1
     (λ fault n k facts knows.
     let known = c.loop-fact.invariant.finds n k facts knows in
-    stops-at context n k c.args.sections.now course c.args.now.now.time facts c.shown-shown.result.now
+    inr (stops-at context n k c.args.sections.now course c.args.now.now.time facts c.shown-shown.result.now
     c.loop-fact.fact-index _ c.loop-fact.findings c.loop-fact.builder c.loop-fact-test.true c.shown-shown.ensures known
-    (c.in_err-is_used.ensures.unfit fault n k _ known))
+    (c.in_err-is_used.ensures.unfit fault n k _ known)))

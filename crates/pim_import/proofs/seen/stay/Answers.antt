@@ -1,7 +1,7 @@
 use Rattle.std.proofs.Common.{◌∙◌, ap, arith, refl}
 use Rattle.pim_course.specs.declared.course.CourseMutex.{CourseMutex}
 use Rattle.pim_course.specs.declared.course.CourseThread.{CourseThread}
-use Rattle.pim_import.proofs.Seeing.{last_then, owners-fewer, owners-more, owners-none, owners-still, waiters-fewer}
+use Rattle.pim_import.proofs.Seeing.{last_then, owners-fewer, owners-more, owners-still, waiters-fewer}
 use Rattle.pim_import.proofs.Seeing.{waiters-more, waiters-none}
 use Rattle.pim_import.proofs.seen.stay.Goals as goal
 
