@@ -1,4 +1,5 @@
 """What tests/record does with the collector: the process of a recording that writes the logs to their files."""
+import contextlib
 import os
 import pathlib
 import re
@@ -80,15 +81,25 @@ def locked_by(process):
     return 1024 * int(line.split()[1])
 
 
+def open_files(process):
+    """Returns what a process has open, but for what it closes meanwhile."""
+    found, place = [], f"/proc/{process}/fd"
+    for name in os.listdir(place):
+        with contextlib.suppress(FileNotFoundError):
+            found.append(os.readlink(f"{place}/{name}"))
+    return found
+
+
 def read(reader, path):
     return reader.Log(reader.used_bytes(path))
 
 
 def has_pairs(reader, broken, path):
-    """Returns whether a log that is still written to is whole by now, and has the end of a program with calls."""
+    """Returns whether a log that is still written to is whole by now, and has the end of a program with calls: one of
+    a program without calls may be removed meanwhile."""
     try:
         log = read(reader, path)
-    except reader.NotALog:
+    except (reader.NotALog, FileNotFoundError):
         return False
     return not broken(log) and counted(reader, log, reader.END) > 0 and counted(reader, log, reader.GRANTED) > 0
 
@@ -349,7 +360,7 @@ def daemon(reader, broken, folder):
     os.close(its)
     there = running.child.stdout.readline()
     collector = running.helper("pim-collector")
-    files = [os.readlink(f"/proc/{collector}/fd/{name}") for name in os.listdir(f"/proc/{collector}/fd")]
+    files = open_files(collector)
     check("a collector keeps no stream open", f"{files}" if any(it.startswith("pipe:") for it in files) else None)
     pathlib.Path(folder, "go").touch()
     status = ended(running.child)
