@@ -11,6 +11,7 @@ from record_logs import log_facts
 CONTENDED = "--contended"
 MILLISECONDS = 1_000_000
 PROTECT = 0x40
+MOST_RECORDINGS = 40
 SKIPPED = 77  # the status of a program that lacks a right
 STEP = 1024  # calls that a thread counts at a time: MOST_UNCOUNTED of record/library/held.h
 
@@ -112,17 +113,21 @@ def as_in_full(reader, broken, folder):
 
 def unannounced(reader, broken, folder):
     """A thread that finds a mutex free, and waits since another was quicker, has its wait in the log. That are more than
-    a tenth of the 200 waits of high in missed."""
-    path = pathlib.Path(folder, "run")
-    done = run(RECORD / "pim-record", "-o", path, "--last", "4M", CONTENDED, PROGRAMS / "missed", "200")
-    if done.returncode == SKIPPED:
-        return skip("waits without a REQUEST", done.stdout.strip())
-    log = read(reader, path)
-    waits = [wait for wait in found(reader, path)[0] if wait[0] == "high"]
-    others = [wait for wait in waits if wait[1] != "low"]
-    check("each wait of high in missed is for low", broken(log) or difference((others,), ([],)))
-    _, lacking, _ = log_facts.facts_of(log_facts.Log(log.records))
-    return check("waits without a REQUEST", None if lacking > 0 else f"none of {len(waits)}")
+    a tenth of the 200 waits of high in missed, and may be none where high and low seldom run at one time: then it is
+    recorded again."""
+    path, others, lacking, fault = pathlib.Path(folder, "run"), [], 0, None
+    for _recording in range(MOST_RECORDINGS):
+        done = run(RECORD / "pim-record", "-o", path, "--last", "4M", CONTENDED, PROGRAMS / "missed", "200")
+        if done.returncode == SKIPPED:
+            return skip("waits without a REQUEST", done.stdout.strip())
+        log = read(reader, path)
+        fault = broken(log)
+        others = [wait for wait in found(reader, path)[0] if wait[0] == "high" and wait[1] != "low"]
+        _, lacking, _ = log_facts.facts_of(log_facts.Log(log.records))
+        if fault or others or lacking:
+            break
+    check("each wait of high in missed is for low", fault or difference((others,), ([],)))
+    return check("waits without a REQUEST", None if lacking > 0 else f"none in {MOST_RECORDINGS} recordings")
 
 
 def laws(reader, broken, folder):
