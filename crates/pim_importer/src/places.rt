@@ -4,6 +4,7 @@ use crate::fault::Fault;
 use crate::files::{is_file, read_file};
 use pim_labels::PlaceTexts;
 use pim_log::Log;
+use pim_words::{Words, address_of, hexadecimal_of, number_of};
 use std::alloc::Global;
 
 /// Returns what the file LOG.places says of each place. If there is no such file, or if the log has no places, that is
@@ -55,18 +56,15 @@ fn next_place<'a>(
     lines: &'a [u8],
     before: &PlaceTexts,
 ) -> Option<(NamedPlace<'a>, &'a [u8])> {
-    let (line, others) = cut(lines, b'\n')?;
-    let (number, words) = cut(line, b' ')?;
-    let (address, text) = cut(words, b' ')?;
-    let digits = match address {
-        [b'0', b'x', digits @ ..] => digits,
-        _ => address,
-    };
-    let address = value_of(digits, 16)?;
+    let (line, others) = cut_line(lines)?;
+    let mut words = Words::of(line);
+    let number = words.next()?;
+    let address = address_in(words.next()?)?;
+    let text = words.rest()?;
     let number = if number == b"-".as_slice() {
         None
     } else {
-        Some(number_of(log, number, address)?)
+        Some(number_at(log, number, address)?)
     };
     if !before.are_before(number, address) {
         return None;
@@ -79,9 +77,14 @@ fn next_place<'a>(
     Some((place, others))
 }
 
-/// Returns the number that these digits spell, if the place of that number is at this address.
-fn number_of(log: &Log, digits: &[u8], address: u64) -> Option<u16> {
-    let number = u16::try_from(value_of(digits, 10)?).ok()?;
+/// Returns the address that a word spells in hexadecimal digits, behind `0x` or not.
+fn address_in(word: &[u8]) -> Option<u64> {
+    address_of(word).or(hexadecimal_of(word))
+}
+
+/// Returns the number that a word spells, if the place of that number is at this address.
+fn number_at(log: &Log, word: &[u8], address: u64) -> Option<u16> {
+    let number = u16::try_from(number_of(word)?).ok()?;
     if log.place(number)? == address {
         Some(number)
     } else {
@@ -89,30 +92,12 @@ fn number_of(log: &Log, digits: &[u8], address: u64) -> Option<u16> {
     }
 }
 
-/// Returns the bytes before the first one that is this, and those behind it.
-fn cut(bytes: &[u8], end: u8) -> Option<(&[u8], &[u8])> {
-    for place in 0..bytes.len() {
-        if bytes[place] == end {
-            return Some((&bytes[..place], &bytes[place + 1..]));
+/// Returns the first line, and what is behind its end.
+fn cut_line(lines: &[u8]) -> Option<(&[u8], &[u8])> {
+    for place in 0..lines.len() {
+        if lines[place] == b'\n' {
+            return Some((&lines[..place], &lines[place + 1..]));
         }
     }
     None
-}
-
-/// Returns the number that digits of this base spell.
-fn value_of(digits: &[u8], base: u64) -> Option<u64> {
-    let mut value = 0u64;
-    for byte in digits {
-        let digit = match *byte {
-            b'0'..=b'9' => byte.saturating_sub(b'0'),
-            b'a'..=b'f' => byte.saturating_sub(b'a' - 10),
-            b'A'..=b'F' => byte.saturating_sub(b'A' - 10),
-            _ => return None,
-        };
-        if u64::from(digit) >= base {
-            return None;
-        }
-        value = value.checked_mul(base)?.checked_add(u64::from(digit))?;
-    }
-    if digits.is_empty() { None } else { Some(value) }
 }

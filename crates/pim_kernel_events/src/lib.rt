@@ -27,7 +27,6 @@ mod stretches;
 mod tasks;
 mod track;
 mod tracks;
-mod words;
 
 pub use event::{Answer, Boost, Event, Loss, Switch, What};
 pub use fault::{LineFault, TextFault};

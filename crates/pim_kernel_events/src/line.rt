@@ -1,7 +1,7 @@
 //! The lines below the head.
 
 use crate::event::{Answer, Boost, Event, Loss, Switch, What};
-use crate::words::{Words, address_of, number_of};
+use pim_words::{Words, address_of, number_of};
 
 /// The first version that has waits for futexes and who ended them.
 const WAITS_SINCE: u64 = 2;
@@ -48,7 +48,7 @@ pub fn read_line(line: &[u8], number: u64, version: u64) -> Option<Line<'_>> {
     if kind == b"name".as_slice() {
         return read_name(&mut words, time);
     }
-    let what = what_of(kind, &mut words, version)?;
+    let what = what_of(kind_of(kind, version)?, &mut words)?;
     if !words.is_done() {
         return None;
     }
@@ -80,32 +80,71 @@ fn read_name<'a>(words: &mut Words<'a>, time: u64) -> Option<Line<'a>> {
     Some(Line::Name(Name { time, task, name }))
 }
 
-/// Returns what happened, by the word for it and the words behind.
-fn what_of(kind: &[u8], words: &mut Words, version: u64) -> Option<What> {
-    match kind {
-        b"wait" if version >= WAITS_SINCE => Some(What::Wait(call_of(words)?)),
-        b"wake" if version >= WAITS_SINCE => Some(What::Wake(words.small()?)),
-        b"switch" => Some(What::Switch(switch_of(words)?)),
-        b"setprio" => Some(What::Boost(boost_of(words)?)),
-        b"lock" | b"lock2" => Some(What::Lock(call_of(words)?)),
-        b"trylock" => Some(What::TryLock(call_of(words)?)),
-        b"unlock" => Some(What::Unlock(call_of(words)?)),
-        b"return" => { Some(What::Return(answer_of(words.next()?)?)) }
-        b"lost" => {
-            let events = words.number()?;
-            let from = words.number()?;
-            Some(What::Lost(Loss { events, from }))
+/// What a word says that happened.
+#[derive(Clone, Copy)]
+enum Kind {
+    Switch,
+    Boost,
+    Lock,
+    TryLock,
+    Unlock,
+    Wait,
+    Return,
+    Wake,
+    Lost,
+}
+
+/// The words for what happens, with the first version that has each.
+const KINDS: [(&[u8], u64, Kind); 10] = [
+    (b"switch", 1, Kind::Switch),
+    (b"setprio", 1, Kind::Boost),
+    (b"lock", 1, Kind::Lock),
+    (b"lock2", 1, Kind::Lock),
+    (b"trylock", 1, Kind::TryLock),
+    (b"unlock", 1, Kind::Unlock),
+    (b"return", 1, Kind::Return),
+    (b"lost", 1, Kind::Lost),
+    (b"wait", WAITS_SINCE, Kind::Wait),
+    (b"wake", WAITS_SINCE, Kind::Wake),
+];
+
+/// Returns what a word says that happened, or `None` where this version has no such word.
+fn kind_of(word: &[u8], version: u64) -> Option<Kind> {
+    for (name, since, kind) in &KINDS {
+        if word == *name && version >= *since {
+            return Some(*kind);
         }
-        _ => None,
+    }
+    None
+}
+
+/// Returns what happened, by the word for it and the words behind.
+fn what_of(kind: Kind, words: &mut Words) -> Option<What> {
+    match kind {
+        Kind::Switch => Some(What::Switch(switch_of(words)?)),
+        Kind::Boost => Some(What::Boost(boost_of(words)?)),
+        Kind::Lock => Some(What::Lock(call_of(words)?)),
+        Kind::TryLock => Some(What::TryLock(call_of(words)?)),
+        Kind::Unlock => Some(What::Unlock(call_of(words)?)),
+        Kind::Wait => Some(What::Wait(call_of(words)?)),
+        Kind::Return => Some(What::Return(answer_of(words.next()?)?)),
+        Kind::Wake => Some(What::Wake(words.small()?)),
+        Kind::Lost => Some(What::Lost(loss_of(words)?)),
     }
 }
 
+fn loss_of(words: &mut Words) -> Option<Loss> {
+    let events = words.number()?;
+    let from = words.number()?;
+    Some(Loss { events, from })
+}
+
 fn switch_of(words: &mut Words) -> Option<Switch> {
-    let level = words.level()?;
+    let level = level_in(words)?;
     let state = words.next()?;
     let is_asleep = is_asleep_in(state)?;
     let next = words.small()?;
-    let next_level = words.level()?;
+    let next_level = level_in(words)?;
     Some(Switch {
         level,
         is_asleep,
@@ -131,8 +170,8 @@ fn is_asleep_in(state: &[u8]) -> Option<bool> {
 
 fn boost_of(words: &mut Words) -> Option<Boost> {
     let task = words.small()?;
-    let before = words.level()?;
-    let after = words.level()?;
+    let before = level_in(words)?;
+    let after = level_in(words)?;
     Some(Boost {
         task,
         before,
@@ -141,7 +180,7 @@ fn boost_of(words: &mut Words) -> Option<Boost> {
 }
 
 fn call_of(words: &mut Words) -> Option<u64> {
-    let address = words.address()?;
+    let address = address_of(words.next()?)?;
     match words.next()? {
         b"private" | b"shared" => Some(address),
         _ => None,
@@ -163,5 +202,18 @@ fn without_sign(word: &[u8]) -> &[u8] {
     match word {
         [b'-', rest @ ..] => rest,
         _ => word,
+    }
+}
+
+/// Returns the level of the kernel's priority that the next word spells: -1 to 140, of which a lower one is higher.
+fn level_in(words: &mut Words) -> Option<u8> {
+    let word = words.next()?;
+    if word == b"-1".as_slice() {
+        return Some(100);
+    }
+    match number_of(word)? {
+        priority if priority < 99 => Some(99 - priority as u8),
+        99..=140 => Some(0),
+        _ => None,
     }
 }

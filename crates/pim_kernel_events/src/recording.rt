@@ -6,7 +6,7 @@ use crate::event::{Event, What};
 use crate::fault::{LineFault, TextFault};
 use crate::line::{End, Line, Name, read_line};
 use crate::tasks::Tasks;
-use crate::words::Words;
+use pim_words::Words;
 use std::alloc::{AllocError, Global};
 
 /// The versions that are known.

@@ -17,7 +17,6 @@ mod fault;
 mod labels;
 mod names;
 mod times;
-mod words;
 
 pub use fault::NamesFault;
 pub use names::{Names, Piece, Thread};

@@ -5,11 +5,14 @@ ghost use Rattle.pim_names.specs.Lines.{IsFault};
 use crate::fault::NamesFault;
 use crate::labels::{Labels, Moment};
 use crate::times::Times;
-use crate::words::{Words, is_address, number_of};
+use pim_words::{Words, address_of, number_of};
 use std::alloc::{AllocError, Global};
 
 /// The numbers of tasks, and those of mutexes, go up to this.
 const NUMBERS: u64 = 256;
+
+/// The words for protocols.
+const PROTOCOLS: [&[u8]; 3] = [b"none", b"inherit", b"protect"];
 
 /// Which thread and which mutex each number is, and when each step was made, of all pieces of a trace.
 #[derive(Drop)]
@@ -84,12 +87,19 @@ impl Names {
     /// Takes a line, and returns whether it is right.
     fn take(&mut self, alloc: Global, line: &[u8]) -> Result<bool, AllocError> {
         let mut words = Words::of(line);
-        match words.next() {
-            Some(b"piece") => self.take_piece(alloc, &mut words),
-            Some(b"step") => self.take_step(&mut words),
-            Some(b"task") => self.take_task(alloc, &mut words),
-            Some(b"mutex") => self.take_mutex(alloc, &mut words),
-            _ => Ok(false),
+        let Some(kind) = words.next() else {
+            return Ok(false);
+        };
+        if kind == b"step".as_slice() {
+            self.take_step(&mut words)
+        } else if kind == b"task".as_slice() {
+            self.take_task(alloc, &mut words)
+        } else if kind == b"mutex".as_slice() {
+            self.take_mutex(alloc, &mut words)
+        } else if kind == b"piece".as_slice() {
+            self.take_piece(alloc, &mut words)
+        } else {
+            Ok(false)
         }
     }
 
@@ -216,25 +226,34 @@ fn thread_of<'a>(words: &mut Words<'a>) -> Option<(u16, u64, &'a [u8])> {
     if parts.next().is_some() {
         return None;
     }
-    Some((number, kernel, words.last_name()?))
+    Some((number, kernel, last_name(words)?))
 }
 
 /// Returns the number of a mutex, and where it was initialised.
 fn mutex_of<'a>(words: &mut Words<'a>) -> Option<(u16, &'a [u8])> {
     let number = trace_number(words)?;
-    match words.next()? {
-        b"none" | b"inherit" | b"protect" => {}
-        _ => return None,
-    }
-    if !is_address(words.next()?) {
+    if !is_protocol(words.next()?) {
         return None;
     }
+    let _address = address_of(words.next()?)?;
     let _process = words.number()?;
-    let place = words.last_name()?;
+    let place = last_name(words)?;
     if place.is_empty() {
         return None;
     }
     Some((number, place))
+}
+
+/// Returns whether a word names a protocol.
+fn is_protocol(word: &[u8]) -> bool {
+    PROTOCOLS.iter().any(|protocol| word == *protocol)
+}
+
+/// Returns the next word, if it is the last one of the line and a name: only letters, digits and signs of ASCII.
+fn last_name<'a>(words: &mut Words<'a>) -> Option<&'a [u8]> {
+    let name = words.next()?;
+    let is_name = words.is_done() && name.iter().all(|byte| byte.is_ascii_graphic());
+    if is_name { Some(name) } else { None }
 }
 
 /// Returns the number of a task or mutex that the next word spells.

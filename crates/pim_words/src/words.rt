@@ -35,14 +35,9 @@ impl<'a> Words<'a> {
         u32::try_from(self.number()?).ok()
     }
 
-    /// Returns the level of the kernel's priority that the next word spells.
-    pub fn level(&mut self) -> Option<u8> {
-        level_of(self.next()?)
-    }
-
-    /// Returns the address that the next word spells.
-    pub fn address(&mut self) -> Option<u64> {
-        address_of(self.next()?)
+    /// Returns what is left of the line, with its spaces, or `None` behind the last word.
+    pub fn rest(&self) -> Option<&'a [u8]> {
+        self.rest
     }
 
     /// Returns whether no word is left.
@@ -68,32 +63,28 @@ pub fn number_of(word: &[u8]) -> Option<u64> {
     Some(number)
 }
 
-/// Returns the level of a priority of the kernel, -1 to 140, of which a lower one is higher.
-fn level_of(word: &[u8]) -> Option<u8> {
-    if word == b"-1".as_slice() {
-        return Some(100);
-    }
-    match number_of(word)? {
-        priority if priority < 99 => Some(99 - priority as u8),
-        99..=140 => Some(0),
+/// Returns the number that a word spells as `0x` and at most 16 hexadecimal digits.
+pub fn address_of(word: &[u8]) -> Option<u64> {
+    match word {
+        [b'0', b'x', digits @ ..] => hexadecimal_of(digits),
         _ => None,
     }
 }
 
-/// Returns the number that a word spells as `0x` and at most 16 hexadecimal digits.
-pub fn address_of(word: &[u8]) -> Option<u64> {
-    if word.len() < 3 || word.len() > 18 || word[0] != b'0' || word[1] != b'x' {
+/// Returns the number that a word spells in hexadecimal digits, 1 to 16, of which letters are lower case.
+pub fn hexadecimal_of(word: &[u8]) -> Option<u64> {
+    if word.is_empty() || word.len() > 16 {
         return None;
     }
     let mut number = 0u64;
-    for byte in &word[2..] {
-        let digit = hexadecimal(*byte)?;
+    for byte in word {
+        let digit = digit_of(*byte)?;
         number = number.checked_mul(16)?.checked_add(u64::from(digit))?;
     }
     Some(number)
 }
 
-fn hexadecimal(byte: u8) -> Option<u8> {
+fn digit_of(byte: u8) -> Option<u8> {
     match byte {
         b'0'..=b'9' => Some(byte - b'0'),
         b'a'..=b'f' => Some(byte - b'a' + 10),
