@@ -1,5 +1,5 @@
 -- Which record of a log has the first thread with a number above 2 ^ 22.
-use Rattle.std.proofs.Common.{◌≡◌, ℕ, ◌<◌, ◌≤◌, ◌^◌, ◌∙◌, List, sym, subst}
+use Rattle.std.proofs.Common.{◌≡◌, ℕ, ◌<◌, ◌^◌, ◌∙◌, List, sym, subst}
 use Rattle.pim_log.specs.Logs.{IsLog, IsNumbered, IsRecord}
 use Rattle.pim_log.specs.declared.record.Record.{Record}
 use Rattle.pim_facts.specs.Covering.{HasRead}

@@ -2,3 +2,5 @@ pub mod Above
 pub mod Covered
 pub mod Ended
 pub mod Naming
+pub mod Giving
+pub mod Placing

@@ -4,3 +4,5 @@ pub mod Levels
 pub mod Covering
 pub mod Ending
 pub mod Naming
+pub mod Giving
+pub mod Placing

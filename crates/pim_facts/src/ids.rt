@@ -1,14 +1,17 @@
 //! Whom each record of a log is about.
-ghost use Rattle.std.specs.Prelude.{◌≡◌, ◌+◌, ◌<◌, ◌≤◌, ◌^◌, ℕ, IfErr, IfOk, IfSome, length, slice_set};
-ghost use Rattle.std.specs.Option.{unwrap_or};
+ghost use Rattle.std.specs.Prelude.{◌≡◌, ◌+◌, ◌<◌, ◌≤◌, ◌^◌, ℕ, IfErr, IfOk, IfSome, IsTrue};
+ghost use Rattle.std.specs.Prelude.{Some, None, length, slice_set};
+ghost use Rattle.std.specs.Option.{option_map, unwrap_or};
 ghost use Rattle.pim_log.specs.Headers.{header_of, end_of};
 ghost use Rattle.pim_log.specs.Logs.{IsLog};
 ghost use Rattle.pim_facts.specs.Covering.{Covers, Grows, HasFewThreads, HasMutex, HasId, HasRead, HasThread};
-ghost use Rattle.pim_facts.specs.Levels.{id_of, first_level};
+ghost use Rattle.pim_facts.specs.Levels.{ceiling_said, id_of, first_level, level_by};
 ghost use Rattle.pim_facts.specs.Ending.{EndsAt, EndsBelow, later_of};
 ghost use Rattle.pim_facts.specs.Faults.{IsFirstAbove, NamesOneOf, NamesOnly};
 ghost use Rattle.pim_facts.specs.declared.fault.IdsFault.TheVariants as ids;
 ghost use Rattle.pim_facts.specs.Naming.{HasNamed, Names};
+ghost use Rattle.pim_facts.specs.Giving.{AddsLevel, AddsLevelsOf, HasLevels, KnowsGiven, level_given, priority_said};
+ghost use Rattle.pim_facts.specs.Placing.{FindsBelow, FindsByAddress, IsPlaced, KeepsPlaces, has_at};
 
 use crate::family::{Family, ceiling_in, family_in};
 use crate::fault::IdsFault;
@@ -57,7 +60,7 @@ pub struct Ids {
     /// By the number of each record the mutex, or the thread that begins, is named or whose priority is set. 0 stands for
     /// none, so that each takes four bytes.
     of_record: Vec<u32>,
-    /// Which levels the log has.
+    /// Which levels the log has: those that its records give to threads, and to mutexes as their ceilings.
     pub levels: [bool; 101],
     /// The latest time of a record, or when the log began if that is later: CLOCK_MONOTONIC in nanoseconds.
     pub ended: u64,
@@ -93,7 +96,8 @@ const NO_THREAD: LoggedThread = LoggedThread {
 };
 
 impl Ids {
-    /// Returns whom each record of the log is about, and which threads its requests name. Each takes four bytes a record.
+    /// Returns whom each record of the log is about, and which threads its requests name. A record of a mutex is about one at
+    /// the address that it has, of its process or shared between processes. Each takes four bytes a record.
     ///
     /// # Errors
     ///
@@ -107,6 +111,8 @@ impl Ids {
         ensures covers { IsLog log.now → IfOk result (λ found. Covers found.0 log.now) }
         ensures ended { IsLog log.now → IfOk result (λ found. EndsAt log.now found.0.ended) }
         ensures named { IsLog log.now → IfOk result (λ found. Names log.now found.1.threads.items) }
+        ensures levels { IsLog log.now → IfOk result (λ found. HasLevels log.now found.0.levels) }
+        ensures addresses { IsLog log.now → IfOk result (λ found. FindsByAddress found.0 log.now) }
     {
         let mut ids = Ids::new(alloc, log)?;
         let mut places = Places {
@@ -125,6 +131,8 @@ impl Ids {
     fn new(alloc: Global, log: &Log) -> Result<Ids, AllocError>
         ensures read { IfOk result (HasRead log.now 1) }
         ensures ended { IfOk result (λ ids. EndsBelow 1 log.now ids.ended) }
+        ensures levels { IfOk result (KnowsGiven 1 log.now) }
+        ensures addresses { IfOk result (λ ids. FindsBelow 1 ids log.now) }
     {
         let mut threads = Vec::new(alloc);
         threads.push(NO_THREAD)?;
@@ -196,6 +204,10 @@ impl Ids {
             IfOk result (λ _. EndsBelow (number + 1) log.now self.new.ended) }
         ensures named { IsLog log.now → HasRead log.now number self.old → HasNamed log.now number tasks.old →
             IfOk result (λ _. HasNamed log.now (number + 1) tasks.new) }
+        ensures levels { IsLog log.now → KnowsGiven number log.now self.old →
+            IfOk result (λ _. KnowsGiven (number + 1) log.now self.new) }
+        ensures addresses { IsLog log.now → HasRead log.now number self.old → FindsBelow number self.old log.now →
+            IfOk result (λ _. FindsBelow (number + 1) self.new log.now) }
     {
         let record = match log.record(number) {
             Some(record) => record,
@@ -220,6 +232,10 @@ impl Ids {
         ensures thread { IfOk result (λ _. HasThread self.new «record».now.thread) }
         ensures few { IfOk result (λ _. «record».now.thread ≤ 2 ^ 22) }
         ensures about { 0 < length self.old.mutexes.items → IfOk result (HasId self.new «record».now.event) }
+        ensures levels { IfOk result (λ _.
+            AddsLevelsOf «record».now (level_given «record».now.event) self.old self.new) }
+        ensures kept { IfOk result (λ _. KeepsPlaces self.old self.new) }
+        ensures placed { IfOk result (IsPlaced self.new «record».now) }
     {
         self.read_thread(record)?;
         match record.event.mutex() {
@@ -246,6 +262,9 @@ impl Ids {
     ) -> Result<u32, AllocError>
         ensures grown { Grows self.old self.new }
         ensures mutex { 0 < length self.old.mutexes.items → IfOk result (HasMutex self.new) }
+        ensures levels { IfOk result (λ _. AddsLevel (ceiling_said mutex.now) self.old self.new) }
+        ensures kept { IfOk result (λ _. KeepsPlaces self.old self.new) }
+        ensures placed { IfOk result (λ m. IsTrue (has_at self.new «record».now.process mutex.now.address m)) }
     {
         if matches!(record.event, Event::Init(_)) {
             self.begin_mutex(places, record, mutex)
@@ -264,6 +283,9 @@ impl Ids {
         ensures fault { IfErr result (NamesOnly «record».now.number «record».now.thread) }
         ensures grown { Grows self.old self.new }
         ensures thread { HasThread self.old «record».now.thread → IfOk result (λ id. IfSome id (HasThread self.new)) }
+        ensures levels { IfOk result (λ _. AddsLevel
+            (option_map (λ priority. level_by priority 1) (priority_said «record».now.event)) self.old self.new) }
+        ensures mutexes { self.new.mutexes ≡ self.old.mutexes }
     {
         match record.event {
             Event::Thread { pthread, priority } => {
@@ -297,6 +319,8 @@ impl Ids {
         ensures grown { Grows self.old self.new }
         ensures thread { IfOk result (λ _. HasThread self.new «record».now.thread) }
         ensures few { IfOk result (λ _. «record».now.thread ≤ 2 ^ 22) }
+        ensures levels { IfOk result (λ _. AddsLevelsOf «record».now None self.old self.new) }
+        ensures mutexes { self.new.mutexes ≡ self.old.mutexes }
     {
         if record.thread > MAX_THREADS {
             return Err(IdsFault::TooManyThreads(record.number));
@@ -311,6 +335,8 @@ impl Ids {
         requires { thread ≤ 2 ^ 22 }
         ensures grown { Grows self.old self.new }
         ensures thread { IfOk result (λ _. HasThread self.new thread) }
+        ensures levels { IfOk result (λ _. AddsLevel None self.old self.new) }
+        ensures mutexes { self.new.mutexes ≡ self.old.mutexes }
     {
         let count = thread as usize + 1;
         if count <= self.threads.len() {
@@ -321,7 +347,9 @@ impl Ids {
     }
 
     fn learn_thread(&mut self, record: &Record)
-        ensures { Grows self.old self.new }
+        ensures grown { Grows self.old self.new }
+        ensures levels { HasThread self.old «record».now.thread → AddsLevelsOf «record».now None self.old self.new }
+        ensures mutexes { self.new.mutexes ≡ self.old.mutexes }
     {
         let thread = record.thread as usize;
         if thread < self.threads.len() {
@@ -344,6 +372,8 @@ impl Ids {
     ) -> Result<(), IdsFault>
         ensures fault { IfErr result (NamesOnly «record».now.number «record».now.thread) }
         ensures grown { Grows self.old self.new }
+        ensures levels { IfOk result (λ _. AddsLevel (Some (level_by priority 1)) self.old self.new) }
+        ensures mutexes { self.new.mutexes ≡ self.old.mutexes }
     {
         self.keep_level(level_of(priority, 1));
         self.begin_level(record.thread, level_of(priority, 0));
@@ -356,7 +386,9 @@ impl Ids {
     }
 
     fn begin_level(&mut self, thread: u32, level: u8)
-        ensures { Grows self.old self.new }
+        ensures grown { Grows self.old self.new }
+        ensures levels { AddsLevel None self.old self.new }
+        ensures mutexes { self.new.mutexes ≡ self.old.mutexes }
     {
         if (thread as usize) < self.threads.len() {
             self.threads[thread as usize].level = level;
@@ -364,13 +396,17 @@ impl Ids {
     }
 
     fn keep_level(&mut self, level: u8)
-        ensures { Grows self.old self.new }
+        ensures grown { Grows self.old self.new }
+        ensures levels { AddsLevel (Some level) self.old self.new }
+        ensures mutexes { self.new.mutexes ≡ self.old.mutexes }
     {
         self.levels[level.min(MAX_LEVEL) as usize] = true;
     }
 
     fn keep_ceiling(&mut self, ceiling: Option<u8>)
-        ensures { Grows self.old self.new }
+        ensures grown { Grows self.old self.new }
+        ensures levels { AddsLevel ceiling self.old self.new }
+        ensures mutexes { self.new.mutexes ≡ self.old.mutexes }
     {
         if let Some(ceiling) = ceiling {
             self.keep_level(ceiling);
@@ -386,14 +422,28 @@ impl Ids {
     ) -> Result<u32, AllocError>
         ensures grown { Grows self.old self.new }
         ensures mutex { 0 < length self.old.mutexes.items → IfOk result (HasMutex self.new) }
+        ensures levels { IfOk result (λ _. AddsLevel (ceiling_said mutex.now) self.old self.new) }
+        ensures kept { IfOk result (λ _. KeepsPlaces self.old self.new) }
+        ensures placed { IfOk result (λ m. IsTrue (has_at self.new «record».now.process mutex.now.address m)) }
     {
         match places.mutex(record.process, mutex.address) {
-            // The map has only numbers of mutexes, which isn't proved of it.
-            Some(number) if number != 0 && (number as usize) < self.mutexes.len() => {
+            // What the map finds is looked at again, since nothing is proved of it.
+            Some(number) if number != 0 && self.has_at(record.process, mutex.address, number) => {
                 self.learn(number, mutex);
                 Ok(number)
             }
             _ => self.begin_mutex(places, record, mutex),
+        }
+    }
+
+    /// Returns whether there is a mutex with this number, and it is at this address of this process.
+    fn has_at(&self, process: u32, address: u64, number: u32) -> bool
+        ensures { result ≡ has_at self.now process address number }
+    {
+        match self.mutexes.get(number as usize) {
+            Some(mutex) => mutex.address == address
+                && mutex.process.is_none_or(|own| own == process),
+            None => false,
         }
     }
 
@@ -406,6 +456,9 @@ impl Ids {
     ) -> Result<u32, AllocError>
         ensures grown { Grows self.old self.new }
         ensures mutex { 0 < length self.old.mutexes.items → IfOk result (HasMutex self.new) }
+        ensures levels { IfOk result (λ _. AddsLevel (ceiling_said mutex.now) self.old self.new) }
+        ensures kept { IfOk result (λ _. KeepsPlaces self.old self.new) }
+        ensures placed { IfOk result (λ m. IsTrue (has_at self.new «record».now.process mutex.now.address m)) }
     {
         let count = self.mutexes.len();
         if count > u32::MAX as usize {
@@ -428,7 +481,9 @@ impl Ids {
 
     /// Learns of a mutex what a record says, if none before said it.
     fn learn(&mut self, number: u32, mutex: &Mutex)
-        ensures { Grows self.old self.new }
+        ensures grown { Grows self.old self.new }
+        ensures levels { AddsLevel (ceiling_said mutex.now) self.old self.new }
+        ensures kept { KeepsPlaces self.old self.new }
     {
         let place = number as usize;
         let ceiling = ceiling_in(mutex);
@@ -504,7 +559,9 @@ impl Places {
 }
 
 /// Returns the process of the mutex of a record: none of one that processes share.
-fn process_of(record: &Record, mutex: &Mutex) -> Option<u32> {
+fn process_of(record: &Record, mutex: &Mutex) -> Option<u32>
+    ensures { IfSome result (λ process. process ≡ «record».now.process) }
+{
     match mutex.kind {
         Some(kind) if kind.is_shared => None,
         _ => Some(record.process),

@@ -4,7 +4,9 @@ use Rattle.std.proofs.lemmas.Result.{err_from_is_err_and}
 use Rattle.pim_log.specs.Headers.{end_of}
 use Rattle.pim_facts.proofs.Covered.{covered}
 use Rattle.pim_facts.proofs.Ended.{ended}
+use Rattle.pim_facts.proofs.Giving.{given}
 use Rattle.pim_facts.proofs.Naming.{named}
+use Rattle.pim_facts.proofs.Placing.{finds}
 use Rattle.pim_facts.proofs.ids.Ids.of.Goals as goal
 
 pub returns-clause-covers : goal.returns-clause-covers
@@ -36,12 +38,32 @@ returns-clause-named c log =
     ))
     c.named.ensures
 
+pub returns-clause-levels : goal.returns-clause-levels
+returns-clause-levels c log =
+    given c.args.log.now c.loop-number.number c.end-number-end.result c.loop-number.ids (c.loop-number.invariant.1 log).2
+    (c.end-number-end.ensures ∙ ap (λ h. end_of h) c.header.ensures)
+    (first_of (
+      omega (arith, c.loop-number-test.false),
+      grind (arith, common_steps, c.loop-number-test.false),
+    ))
+
+pub returns-clause-addresses : goal.returns-clause-addresses
+returns-clause-addresses c log =
+    finds c.args.log.now c.loop-number.number c.end-number-end.result c.loop-number.ids (c.loop-number.invariant.1 log).3
+    (c.end-number-end.ensures ∙ ap (λ h. end_of h) c.header.ensures)
+    (first_of (
+      omega (arith, c.loop-number-test.false),
+      grind (arith, common_steps, c.loop-number-test.false),
+    ))
+
 pub loop-number-preserved : goal.loop-number-preserved
 loop-number-preserved c = (
   c.in_ok-read_record.ensures.read c.loop-number.invariant.0,
   λ log. (
     c.in_ok-read_record.ensures.ended log (c.loop-number.invariant.1 log).0,
     c.in_ok-read_record.ensures.named log c.loop-number.invariant.0 (c.loop-number.invariant.1 log).1,
+    c.in_ok-read_record.ensures.levels log (c.loop-number.invariant.1 log).2,
+    c.in_ok-read_record.ensures.addresses log c.loop-number.invariant.0 (c.loop-number.invariant.1 log).3,
   ),
 )
 

@@ -1,9 +1,11 @@
-use Rattle.std.proofs.Common.{ap, ◌∙◌}
+use Rattle.std.proofs.Common.{◌+◌, ap, ◌∙◌}
 use Rattle.std.proofs.lemmas.Result.{err_from_is_err_and}
 use Rattle.pim_facts.proofs.Above.{first-above}
 use Rattle.pim_facts.proofs.Covered.{later, lacks, reads}
 use Rattle.pim_facts.proofs.Ended as ended
+use Rattle.pim_facts.proofs.Giving as levels
 use Rattle.pim_facts.proofs.Naming as tasks
+use Rattle.pim_facts.proofs.Placing as places
 use Rattle.pim_facts.proofs.ids.Ids.read_record.Goals as goal
 
 pub returns-in-None-clause-read : goal.returns-in-None-clause-read
@@ -32,6 +34,31 @@ pub returns-clause-named : goal.returns-clause-named
 returns-clause-named c log read named =
     tasks.reads c.args.log.now c.args.number c.args.self.now c.args.tasks.now c.read-2.new.self c.in-Some.record log
     c.in-Some.ensures (read.covers log) c.in_ok-read.ensures.begun c.in_ok-read.ensures.named named
+
+pub returns-in-None-clause-levels : goal.returns-in-None-clause-levels
+returns-in-None-clause-levels c log knows =
+    levels.lacks c.args.log.now c.args.number c.args.self.now c.in-None.ensures knows
+
+pub returns-clause-levels : goal.returns-clause-levels
+returns-clause-levels c log knows =
+    let was : _ = levels.kept c.args.log.now c.args.number c.args.self.now c.read_time.new.self
+    (ap (λ d. d.levels) c.read_time.ensures) (ap (λ d. d.threads) c.read_time.ensures) knows in
+    let reads : _ = levels.reads c.args.log.now c.args.number c.read_time.new.self c.read.new.self c.in-Some.record log
+    c.in-Some.ensures c.in_ok-id.ensures.levels was in
+    levels.kept c.args.log.now (c.args.number + 1) c.read.new.self c.put.new.self (ap (λ d. d.levels) c.put.ensures.rest)
+    (ap (λ d. d.threads) c.put.ensures.rest) reads
+
+pub returns-in-None-clause-addresses : goal.returns-in-None-clause-addresses
+returns-in-None-clause-addresses c log read finds =
+    places.lacks c.args.log.now c.args.number c.args.self.now c.in-None.ensures finds
+
+pub returns-clause-addresses : goal.returns-clause-addresses
+returns-clause-addresses c log read finds =
+    let was : _ = later c.args.log.now c.args.number c.args.self.now c.read_time.new.self _ c.read_time.ensures read in
+    let found : _ = places.later c.args.log.now c.args.number c.args.self.now c.read_time.new.self _ c.read_time.ensures finds in
+    places.reads c.args.log.now c.args.number c.read_time.new.self c.read.new.self c.put.new.self c.in-Some.record c.in_ok-id.id
+    log c.in-Some.ensures c.read.ensures.grown c.in_ok-id.ensures.kept (c.in_ok-id.ensures.about was.mutexes)
+    c.in_ok-id.ensures.placed c.put.ensures.about c.put.ensures.rest was found
 
 pub returns-in_err-id-clause-above : goal.returns-in_err-id-clause-above
 returns-in_err-id-clause-above c =

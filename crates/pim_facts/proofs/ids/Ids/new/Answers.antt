@@ -1,0 +1,12 @@
+use Rattle.std.proofs.Common.{◌∷◌, ◌++◌, [], ◌∙◌, ap, refl}
+use Rattle.pim_facts.proofs.Giving.{begins, no-level, nobody-met, none-first}
+use Rattle.pim_facts.proofs.ids.Ids.new.Goals as goal
+
+pub returns-clause-levels : goal.returns-clause-levels
+returns-clause-levels c =
+    begins c.args.log.now _ refl (no-level 101)
+    (nobody-met c.push.new.self.items _
+    (c.in_ok-push.ensures.items ∙ ap (λ xs. xs ++ _ ∷ []) c.new-threads.ensures.items) refl)
+
+pub returns-clause-addresses : goal.returns-clause-addresses
+returns-clause-addresses c = λ number r lt at. absurd (none-first c.args.log.now number r lt at)
