@@ -17,7 +17,8 @@ use Rattle.pim_replay.specs.declared.observation.Observation.{Observation}
 use Rattle.pim_replay.specs.declared.observation.Observation.TheVariants as observation
 use Rattle.pim_replay.proofs.Replaying.{same_refl}
 use Rattle.pim_builder.specs.Showing.{HoldsOf, IsSetting, JoinsQueueBy}
-use Rattle.pim_builder.specs.Views.{View, held, holder_in, mutex_in, number_in, task_in}
+use Rattle.pim_builder.specs.Views.{View, held, holder_in, mutex_in, task_in}
+use Rattle.pim_numbers.specs.Numbered.{number_in}
 use Rattle.pim_builder.specs.Frames.{BeginsAsMutex, BeginsAsTask, Changed, ChangesOnly, ChangesThose, KeepsOthers}
 use Rattle.pim_builder.specs.Frames.{HasNothing, IsUnused, MutexBegins, Nobody, OnlyClears, OnlyFrees, OnlyEntersMutex}
 use Rattle.pim_builder.specs.Frames.{OnlyEntersThread, OnlyLeaves, TaskBegins}

@@ -16,7 +16,8 @@ use Rattle.pim_builder.specs.Views.{BuilderState, program_at, view_of}
 use Rattle.pim_builder.specs.Pieces.{AllJoinAt, Point, GoesOn, EndWith, HasTimes, steps_of}
 use Rattle.pim_builder.specs.Refusing.{NumberedLaw}
 use Rattle.pim_builder.specs.Showing.{HoldsOf, Joins, JoinsQueueBy, ShowsWhat, SetsNone, Shows}
-use Rattle.pim_builder.specs.Views.{number_in, held, task_now, mutex_now}
+use Rattle.pim_builder.specs.Views.{held, task_now, mutex_now}
+use Rattle.pim_numbers.specs.Numbered.{number_in}
 use Rattle.pim_builder.specs.Shown.{as_thread, as_mutex, given_to, taken_by, holders_after, nobody, threads_after}
 use Rattle.pim_builder.specs.Shown.{mutexes_after, Dated, Stage, AppearsBetween, LeadsTo}
 use Rattle.pim_builder.specs.Shown.{IsShownAt, AreShownBy, AreShownIn, stage_of, view_at, HasHolders, AreShown, Extends}
@@ -24,7 +25,7 @@ use Rattle.pim_builder.specs.declared.builder.Appearance.{Appearance}
 use Rattle.pim_builder.specs.declared.builder.Context.{Context}
 use Rattle.pim_builder.specs.declared.builder.Who.{Who}
 use Rattle.pim_builder.specs.declared.builder.Who.TheVariants.{Thread, Mutex}
-use Rattle.pim_builder.specs.declared.numbering.Numbers.{Numbers}
+use Rattle.pim_numbers.specs.declared.numbering.Numbers.{Numbers}
 use Rattle.pim_builder.proofs.GoingOn.{goes_on_refl, goes_on_trans, more_steps}
 use Rattle.pim_builder.proofs.KeepingQueues.{all_join_since}
 

@@ -22,16 +22,17 @@ use Rattle.pim_replay.specs.Replays.{Has, IsSame, Program, ReplayState, awaited,
 use Rattle.pim_replay.specs.Replays.{waiting_for}
 use Rattle.pim_replay.specs.Replays as replays
 use Rattle.pim_replay.specs.declared.observation.Observation.TheVariants as observation
-use Rattle.pim_builder.specs.Faults.{IsContradiction}
+use Rattle.pim_numbers.specs.Faults.{IsContradiction}
 use Rattle.pim_builder.specs.Frames.{OnlyEntersMutex, OnlyEntersThread}
 use Rattle.pim_builder.specs.Pieces.{GoesOn, Point}
 use Rattle.pim_builder.specs.Refusing.{CanShow, CannotAct, CannotShow, CanSetCeiling, HasMutex}
 use Rattle.pim_builder.specs.Refusing.{IsImpossibleThen, first_base, first_ceiling}
 use Rattle.pim_builder.specs.Showing.{HasBase, HasCeiling, HoldsOf, IsPassedOn, IsSetting, Shows, ShowsWhat}
 use Rattle.pim_builder.specs.Shown.{Extends}
-use Rattle.pim_builder.specs.Views.{BuilderState, held, mutex_now, number_in, program_at, replay_now, task_now, view_of}
+use Rattle.pim_builder.specs.Views.{BuilderState, held, mutex_now, program_at, replay_now, task_now, view_of}
+use Rattle.pim_numbers.specs.Numbered.{number_in}
 use Rattle.pim_builder.specs.declared.builder.Context.{Context}
-use Rattle.pim_builder.specs.declared.fault.ImportFault.{ImportFault}
+use Rattle.pim_numbers.specs.declared.fault.ImportFault.{ImportFault}
 use Rattle.pim_builder.proofs.Entering.{held_is}
 use Rattle.pim_builder.proofs.Extending.{extends_trans}
 

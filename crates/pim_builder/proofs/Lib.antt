@@ -1,5 +1,3 @@
-pub mod SharingLemmas
-pub mod CrowdedLemmas
 pub mod Joining
 pub mod KeepingQueues
 pub mod GoingOn
@@ -9,8 +7,4 @@ pub mod Entering
 pub mod Doing
 pub mod Making
 pub mod Justifying
-pub mod Listing
-pub mod Giving
-pub mod Leading
-pub mod Many
-pub mod Spanning
+pub mod Cutting

@@ -1,9 +1,6 @@
-pub mod Sharing
-pub mod Faults
 pub mod Showing
 pub mod Pieces
 pub mod Views
 pub mod Frames
 pub mod Shown
 pub mod Refusing
-pub mod Numbered

@@ -16,13 +16,13 @@ use Rattle.pim_replay.specs.declared.observation.Observation.{Observation}
 use Rattle.pim_replay.specs.declared.observation.Observation.TheVariants as observation
 use Rattle.pim_replay.specs.Replays.{Has, ReplayState, awaited, program_of}
 use Rattle.pim_builder.specs.Frames.{OnlyEntersMutex, OnlyEntersThread}
-use Rattle.pim_builder.specs.Numbered.{HasNumber}
 use Rattle.pim_builder.specs.Pieces.{GoesOn}
 use Rattle.pim_builder.specs.Showing.{HasBase, HasCeiling, HoldsOf}
 use Rattle.pim_builder.specs.Shown.{HasHolders}
-use Rattle.pim_builder.specs.Views.{BuilderState, View, mutex_now, number_in, replay_now, task_now, view_of}
+use Rattle.pim_builder.specs.Views.{BuilderState, View, mutex_now, replay_now, task_now, view_of}
+use Rattle.pim_numbers.specs.Numbered.{HasNumber, number_in}
 use Rattle.pim_builder.specs.declared.builder.Context.{Context}
-use Rattle.pim_builder.specs.declared.participants.Participant.{Participant}
+use Rattle.pim_numbers.specs.declared.participants.Participant.{Participant}
 
 -- mutex n is free, and task k may have it: it is in no queue, and its base isn't above the ceiling, unless it waits for n
 pub record MayBeGranted (r : ReplayState) (k n : ℕ) : Type 0 where

@@ -9,12 +9,13 @@ use Rattle.pim_replay.specs.Replays.{IsInOrder}
 use Rattle.pim_builder.specs.Frames.{AllJoinBy, KeepsOthers}
 use Rattle.pim_builder.specs.Pieces.{Point, GoesOn, EndWith, HasTimes, steps_of}
 use Rattle.pim_builder.specs.Showing.{JoinsQueueBy, ShowsWhat, SetsNone}
-use Rattle.pim_builder.specs.Views.{BuilderState, View, mutex_in, number_in, program_at, task_in}
+use Rattle.pim_builder.specs.Views.{BuilderState, View, mutex_in, program_at, task_in}
+use Rattle.pim_numbers.specs.Numbered.{number_in}
 use Rattle.pim_builder.specs.declared.builder.Appearance.{Appearance}
 use Rattle.pim_builder.specs.declared.builder.Context.{Context}
 use Rattle.pim_builder.specs.declared.builder.Who.{Who}
 use Rattle.pim_builder.specs.declared.builder.Who.TheVariants.{Thread, Mutex}
-use Rattle.pim_builder.specs.declared.numbering.Numbers.{Numbers}
+use Rattle.pim_numbers.specs.declared.numbering.Numbers.{Numbers}
 
 -- the thread that appears, if it is one
 abbrev pub as_thread : Who → Option ℕ

@@ -1,15 +1,11 @@
 -- What a trace has at a point: who has which number, and the program.
-use Rattle.std.specs.Prelude.{ℕ, List, Option, None, Some, if◌then◌else◌, slice_index_or, unwrap_or}
+use Rattle.std.specs.Prelude.{ℕ, List, Option, None, Some, if◌then◌else◌, unwrap_or}
 use Rattle.pim_base.specs.Lists.{nth, holds}
+use Rattle.pim_numbers.specs.Numbered.{number_in}
 use Rattle.pim_replay.specs.Replays.{Program, ReplayState, program_of}
 use Rattle.pim_builder.specs.Pieces.{Point}
 use Rattle.pim_builder.specs.declared.builder.Appearance.{Appearance}
 use Rattle.pim_builder.specs.declared.builder.Context.{Context}
-use Rattle.pim_builder.specs.declared.numbering.Numbers.{Numbers}
-
--- the number in the trace of a thread or a mutex of the log, if it takes part
-abbrev pub number_in : Numbers → ℕ → Option ℕ
-number_in numbers one = slice_index_or numbers.of_each.items one None
 
 -- who has a number; of mutexes in a program also who owns one
 abbrev pub holder_in : List (Option ℕ) → ℕ → Option ℕ

@@ -4,7 +4,7 @@ ghost use Rattle.pim_base.specs.Checks.{above_ceiling};
 ghost use Rattle.pim_base.specs.State.{IsMutex, IsTask, wait_of};
 ghost use Rattle.pim_replay.specs.Replays.{IsGiven, IsInOrder, IsSame, awaited, awaits, observed};
 ghost use Rattle.pim_replay.specs.declared.observation.Observation.TheVariants as observation;
-ghost use Rattle.pim_builder.specs.Faults.{IsContradiction, NamesOnly};
+ghost use Rattle.pim_numbers.specs.Faults.{IsContradiction, NamesOnly};
 ghost use Rattle.pim_builder.specs.Frames.{ChangesBy, HasNothing, IsUnused, OnlyClears, OnlyFrees, OnlyLeaves};
 ghost use Rattle.pim_builder.specs.Pieces.{AllJoinAt, GoesOn, HasAsMany};
 ghost use Rattle.pim_builder.specs.Refusing.{CanGrant, CanSetCeiling, Grants, IsAbove};
@@ -12,9 +12,9 @@ ghost use Rattle.pim_builder.specs.Showing.{HasBase, HasCeiling};
 ghost use Rattle.pim_builder.specs.Views.{program_at};
 
 use crate::builder::Now;
-use crate::fault::ImportFault;
 use crate::pieces::Pieces;
 use pim_base::{MutexNo, Prio, Protocol, TaskNo};
+use pim_numbers::ImportFault;
 use pim_replay::Observation;
 
 impl Pieces {

@@ -7,24 +7,21 @@ ghost use Rattle.pim_base.specs.Lists as lists;
 ghost use Rattle.pim_base.specs.State.{IsMutex, IsTask, is_recursive};
 ghost use Rattle.pim_facts.specs.Shown.{mutex_of};
 ghost use Rattle.pim_base.specs.declared.limits.TheConstants.{MAX_MUTEXES, MAX_TASKS};
-ghost use Rattle.pim_builder.specs.declared.fault.ImportFault.TheVariants as import;
-ghost use Rattle.pim_builder.specs.Numbered.{HasRoomFor};
-ghost use Rattle.pim_builder.specs.Faults.{IsContradiction, NamesNone, NamesOnly};
+ghost use Rattle.pim_numbers.specs.declared.fault.ImportFault.TheVariants as import;
+ghost use Rattle.pim_numbers.specs.Numbered.{HasRoomFor, number_in};
+ghost use Rattle.pim_numbers.specs.Faults.{IsContradiction, NamesNone, NamesOnly};
 ghost use Rattle.pim_replay.specs.Possible.{NoneIsRecursive};
 ghost use Rattle.pim_replay.specs.Replays.{IsInOrder};
 ghost use Rattle.pim_builder.specs.Frames.{AllJoinBy, KeepsOthers, OnlyEntersMutex, OnlyEntersThread};
-ghost use Rattle.pim_builder.specs.Pieces.{AreJoined, EndWith, HasRoom, HasTimes};
+ghost use Rattle.pim_builder.specs.Pieces.{AreJoined, EndWith, HasTimes};
 ghost use Rattle.pim_builder.specs.Showing.{HasBase, HasCeiling, IsSetting, Joins, SetsNone, Shows};
 ghost use Rattle.pim_builder.specs.Refusing.{CannotAct, CannotShow, HasMutex, HasTask};
 ghost use Rattle.pim_builder.specs.Refusing.{first_base, first_ceiling, level_in};
 ghost use Rattle.pim_course.specs.Courses.{family_in};
 ghost use Rattle.pim_facts.specs.declared.family.Family.TheVariants as family;
-ghost use Rattle.pim_builder.specs.Views.{holder_in, mutex_now, number_in, replay_now, task_now, view_of};
+ghost use Rattle.pim_builder.specs.Views.{holder_in, mutex_now, replay_now, task_now, view_of};
 ghost use Rattle.pim_builder.specs.Shown.{AreShown, AreShownIn, Dated, Extends};
 
-use crate::fault::ImportFault;
-use crate::numbering::{Numbering, is_same};
-use crate::participants::{Participant, Participants};
 use crate::piece::Piece;
 use crate::pieces::Pieces;
 use pim_base::{MutexNo, Prio, Protocol, TaskNo, nth};
@@ -32,6 +29,7 @@ use pim_course::{Sources, family_of};
 use pim_facts::lists::push;
 use pim_facts::{Fact, Family, What};
 use pim_manager::MakeFault;
+use pim_numbers::{ImportFault, Numbering, Participant, Participants, is_same};
 use pim_replay::{Observation, Priorities, Replay};
 use std::alloc::{AllocError, Global};
 use std::marker::Model;
@@ -143,8 +141,7 @@ impl TraceBuilder {
     /// # Errors
     ///
     /// Returns `Contradiction` if the log contradicts itself there, and `Memory` if out of memory. Of a contradiction it is
-    /// proved that the trace can't show the fact, if queues are in order and the piece has room: `CannotShow` of
-    /// specs/Refusing.antt.
+    /// proved that the trace can't show the fact, if queues are in order: `CannotShow` of specs/Refusing.antt.
     pub fn build(&mut self, context: &Context, fact: &Fact, now: &Now) -> Result<bool, ImportFault>
         ensures unused { IfOk result (λ is_used. is_used ≡ false → IsSetting fact.now.what) }
         ensures shows { IfOk result (λ is_used. IsTrue is_used → Shows context.now self.new fact.now) }
@@ -156,8 +153,7 @@ impl TraceBuilder {
         ensures given { IfOk result (λ _. AllJoinBy self.old.pieces self.new.pieces
             (mutex_now context.now self.new) fact.now.what fact.now.thread) }
         ensures fault { IfErr result (NamesOnly now.now.number) }
-        ensures justified { IsInOrder (replay_now self.old) → HasRoom self.old.pieces.piece →
-            IfErr result (λ fault. IsContradiction fault →
+        ensures justified { IsInOrder (replay_now self.old) → IfErr result (λ fault. IsContradiction fault →
             CannotShow context.now now.now.time fact.now.what fact.now self.old) }
     {
         self.pieces.cut(now)?;

@@ -4,16 +4,16 @@ ghost use Rattle.pim_replay.specs.Replays.{IsGiven, IsInOrder, IsSame, JoinsQueu
 ghost use Rattle.pim_replay.specs.Replays.{observed, program_of};
 ghost use Rattle.pim_replay.specs.Possible.{CanDo, NoneIsRecursive};
 ghost use Rattle.pim_replay.specs.declared.fault.ReplayFault.TheVariants as replay;
-ghost use Rattle.pim_builder.specs.Faults.{IsContradiction, NamesOnly};
+ghost use Rattle.pim_numbers.specs.Faults.{IsContradiction, NamesOnly};
 ghost use Rattle.pim_builder.specs.Pieces.{AllJoinAt, AreJoined, EndWith, GoesOn, HasAsMany, HasRoom, HasTimes};
 ghost use Rattle.pim_builder.specs.Pieces.{own_steps, steps_of};
 
 use crate::builder::Now;
-use crate::fault::ImportFault;
 use crate::piece::Piece;
 use crate::times::Times;
 use pim_base::MAX_STEPS;
 use pim_facts::lists::push;
+use pim_numbers::ImportFault;
 use pim_replay::{Observation, Replay, ReplayFault, restored};
 use std::alloc::{AllocError, Global};
 use std::marker::Model;
@@ -117,13 +117,18 @@ impl Pieces {
         Ok(())
     }
 
-    /// Ends the piece if it is nearly full, and begins the next one with the state at its end.
-    #[tactic(auto, using(crate::proofs::GoingOn::goes_on_refl))]
-    pub(crate) fn cut(&mut self, now: &Now) -> Result<(), ImportFault>
+    /// Ends the piece if it is nearly full, and begins the next one with the state at its end. If no steps restore that
+    /// state, the piece goes on: the log isn't to blame.
+    ///
+    /// # Errors
+    ///
+    /// Returns `AllocError` if out of memory, or if it was before so that a time is missing.
+    #[tactic(auto, using(crate::proofs::GoingOn::goes_on_refl, crate::proofs::Cutting::keeps_order_refl))]
+    pub(crate) fn cut(&mut self, now: &Now) -> Result<(), AllocError>
         ensures same { IfOk result (λ _. StaysTheSame self.old.piece.replay self.new.piece.replay) }
+        ensures order { IfOk result (λ _. KeepsOrder self.old.piece.replay self.new.piece.replay) }
         ensures on { IfOk result (λ _. GoesOn now.now.time self.old self.new) }
         ensures counts { HasAsMany self.old self.new }
-        ensures fault { IfErr result (NamesOnly now.now.number) }
         ensures room { HasRoom self.old.piece → (self.new ≡ self.old) × IsOk result }
     {
         if self.piece.replay.entries().len().saturating_add(ROOM) <= MAX_STEPS as usize {
@@ -131,7 +136,8 @@ impl Pieces {
         }
         let next = match restored(self.alloc, &self.piece.replay) {
             Ok(next) => next,
-            Err(fault) => return Err(at_record(fault, now)),
+            Err(ReplayFault::Contradiction) => return Ok(()),
+            Err(ReplayFault::Memory) => return Err(AllocError),
         };
         let restoring = next.entries().len();
         let mut times = Times::new(self.alloc);

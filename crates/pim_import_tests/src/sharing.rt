@@ -1,6 +1,6 @@
-//! pim_builder: spans of a few records and their numbers. pim_replay: levels of a log and their priorities.
+//! pim_numbers: spans of a few records and their numbers. pim_replay: levels of a log and their priorities.
 
-use pim_builder::{SharingFault, Span, share};
+use pim_numbers::{SharingFault, Span, share};
 use pim_replay::{Priorities, Scale};
 use std::alloc::{AllocError, Global};
 use std::test::*;

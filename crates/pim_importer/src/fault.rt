@@ -1,9 +1,9 @@
 //! Why a log isn't imported.
 
-use pim_builder::ImportFault;
 use pim_facts_text::FactsFault;
 use pim_kernel_events::TextFault;
 use pim_log::LogFault;
+use pim_numbers::ImportFault;
 use std::alloc::AllocError;
 use thiserror::Error;
 

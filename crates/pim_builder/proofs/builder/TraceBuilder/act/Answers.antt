@@ -5,7 +5,7 @@ use Rattle.pim_base.specs.State.{IsState}
 use Rattle.pim_facts.specs.declared.fact.What.TheVariants as what
 use Rattle.pim_replay.specs.Replays.{ReplayState}
 use Rattle.pim_replay.specs.declared.observation.Observation.TheVariants.{GaveUp}
-use Rattle.pim_builder.specs.Faults.{IsContradiction}
+use Rattle.pim_numbers.specs.Faults.{IsContradiction}
 use Rattle.pim_builder.specs.Refusing.{CannotAct}
 use Rattle.pim_builder.specs.Views.{BuilderState, mutex_now, program_at, replay_now, task_now, view_of}
 use Rattle.pim_builder.proofs.Entering.{all_joined, gives_up_only, grants_only, releases_only, waits_joined, waits_only}

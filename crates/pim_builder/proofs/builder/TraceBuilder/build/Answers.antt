@@ -1,9 +1,9 @@
 use Rattle.std.proofs.Common.{IfErr, subst}
 use Rattle.pim_replay.specs.Replays.{IsInOrder}
-use Rattle.pim_builder.specs.Faults.{IsContradiction}
-use Rattle.pim_builder.specs.Pieces.{HasRoom}
+use Rattle.pim_numbers.specs.Faults.{IsContradiction}
 use Rattle.pim_builder.specs.Refusing.{CannotShow}
 use Rattle.pim_builder.specs.Views.{BuilderState}
+use Rattle.pim_builder.proofs.Cutting.{cannot_show_before}
 use Rattle.pim_builder.proofs.Extending.{shown_more}
 use Rattle.pim_builder.proofs.Justifying.{of_fault}
 use Rattle.pim_builder.proofs.Making.{IsMade, cut_and_made, of_fields}
@@ -30,21 +30,19 @@ returns c =
       queued = made.queued;
       given = made.given;
       fault = tt;
-      justified = λ order room. tt;
+      justified = λ order. tt;
     }
 
 pub returns-in_err-is_used-clause-justified : goal.returns-in_err-is_used-clause-justified
 returns-in_err-is_used-clause-justified c = subst
-    (λ (a : BuilderState). IsInOrder a.pieces.piece.replay → HasRoom a.pieces.piece →
+    (λ (a : BuilderState). IsInOrder a.pieces.piece.replay →
     IfErr c.from_residual-in_err-is_used.result (λ fault. IsContradiction fault →
     CannotShow c.args.context.now c.args.now.now.time c.args.fact.now.what c.args.fact.now a))
     c.self.view_is
-    (λ order room. of_fault
+    (λ order. of_fault
     (λ fault. IsContradiction fault →
     CannotShow c.args.context.now c.args.now.now.time c.args.fact.now.what c.args.fact.now (of_fields c.self.inside))
     c.in_err-is_used.field-0.0 c.from_residual-in_err-is_used.result c.from_residual-in_err-is_used.ensures.1
-    (λ fault. subst
-    (λ p. CannotShow c.args.context.now c.args.now.now.time c.args.fact.now.what c.args.fact.now
-    (record (of_fields c.self.inside) { pieces = p }))
-    (c.in_ok-cut.ensures.room room).0
+    (λ fault. cannot_show_before c.args.context.now c.args.now.now.time c.args.fact.now (of_fields c.self.inside)
+    c.cut.new.self c.in_ok-cut.ensures.on c.in_ok-cut.ensures.same c.in_ok-cut.ensures.order c.args.fact.now.what
     (c.in_err-is_used.ensures.justified (c.in_ok-cut.ensures.on.order order) fault)))

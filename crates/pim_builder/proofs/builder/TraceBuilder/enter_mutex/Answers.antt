@@ -6,11 +6,12 @@ use Rattle.pim_course.specs.Courses.{family_in}
 use Rattle.pim_facts.specs.declared.family.Family.{Family}
 use Rattle.pim_replay.specs.Replays.{IsInOrder, Program}
 use Rattle.pim_replay.proofs.Replaying.{same_refl}
-use Rattle.pim_builder.specs.Faults.{IsContradiction}
+use Rattle.pim_numbers.specs.Faults.{IsContradiction}
 use Rattle.pim_builder.specs.Frames.{ChangesThose, OnlyEntersMutex}
 use Rattle.pim_builder.specs.Refusing.{CanSetCeiling, HasMutex, first_ceiling}
 use Rattle.pim_builder.specs.Showing.{HasCeiling, HoldsOf}
-use Rattle.pim_builder.specs.Views.{BuilderState, View, held, mutex_in, mutex_now, number_in, program_at}
+use Rattle.pim_builder.specs.Views.{BuilderState, View, held, mutex_in, mutex_now, program_at}
+use Rattle.pim_numbers.specs.Numbered.{number_in}
 use Rattle.pim_builder.specs.Views.{replay_now, view_of}
 use Rattle.pim_builder.specs.Shown.{Extends}
 use Rattle.pim_builder.proofs.Entering.{enters_mutex, number_taken}

@@ -6,7 +6,8 @@ use Rattle.pim_builder.specs.Frames.{ChangesThose, OnlyEntersThread}
 use Rattle.pim_builder.specs.Refusing.{HasTask}
 use Rattle.pim_builder.specs.Showing.{HoldsOf}
 use Rattle.pim_builder.specs.Shown.{Extends}
-use Rattle.pim_builder.specs.Views.{BuilderState, View, number_in, program_at, replay_now, task_now, view_of}
+use Rattle.pim_builder.specs.Views.{BuilderState, View, program_at, replay_now, task_now, view_of}
+use Rattle.pim_numbers.specs.Numbered.{number_in}
 use Rattle.pim_builder.proofs.Entering.{enters_thread, number_taken}
 use Rattle.pim_builder.proofs.Extending.{extends_refl, extends_steps, extends_trans}
 use Rattle.pim_builder.proofs.Making.{of_fields}

@@ -4,7 +4,7 @@ use Rattle.pim_base.specs.State.{IsMutex, IsTask}
 use Rattle.pim_replay.specs.Replays.{Program}
 use Rattle.pim_replay.specs.declared.observation.Observation.TheVariants.{Base, Ceiling}
 use Rattle.pim_replay.proofs.Replaying.{same_refl}
-use Rattle.pim_builder.specs.Faults.{IsContradiction}
+use Rattle.pim_numbers.specs.Faults.{IsContradiction}
 use Rattle.pim_builder.specs.Refusing.{CannotShow}
 use Rattle.pim_builder.specs.Views.{BuilderState, mutex_now, program_at, replay_now, task_now, view_of}
 use Rattle.pim_builder.proofs.Entering.{ceiling_only, level_only, none_changed}

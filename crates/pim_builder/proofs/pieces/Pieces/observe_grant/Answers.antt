@@ -2,7 +2,7 @@ use Rattle.std.proofs.Common.{Err, IfOk, Ok, Result, rules}
 use Rattle.std.proofs.lemmas.Result.{IfOk-weaker}
 use Rattle.pim_base.specs.Steady.{IsSteady}
 use Rattle.pim_replay.specs.Replays.{IsInOrder}
-use Rattle.pim_builder.specs.Faults.{IsContradiction}
+use Rattle.pim_numbers.specs.Faults.{IsContradiction}
 use Rattle.pim_builder.specs.Views.{program_at}
 use Rattle.pim_builder.proofs.Doing.{can_grant_at_ceiling, granted_back}
 use Rattle.pim_builder.proofs.Framing.{around_base, by_observation}
