@@ -1,24 +1,34 @@
--- By which appearance each thread and mutex begins to take part.
-use Rattle.std.proofs.Common.{◌≡◌, ℕ, ◌∙◌, List, [], ◌∷◌, Option, Some, None, ap, inl, inr, refl, subst, sym}
+-- By which appearance each thread and mutex begins to take part, and up to which it does so.
+use Rattle.std.proofs.Common.{◌≡◌, ℕ, ◌∙◌, List, [], ◌∷◌, Option, Some, None, ap, inl, inr, refl, slice_index_or, subst, sym}
 use Rattle.std.specs.Prelude.{IfSome}
-use Rattle.pim_builder.specs.declared.participants.Participant.{Participant}
-use Rattle.pim_builder.specs.declared.participants.Participants.{Participants}
+use Rattle.pim_numbers.specs.declared.participants.Participant.{Participant}
+use Rattle.pim_numbers.specs.declared.participants.Participants.{Participants}
 use Rattle.pim_facts.specs.declared.fact.Fact.{Fact}
 use Rattle.pim_facts.specs.declared.fact.What.{What}
 use Rattle.pim_facts.specs.declared.fact.What.TheVariants.{Granted, Waits, GaveUp, Released, Level, Ceiling}
 use Rattle.pim_course.specs.declared.course.Course.{Course}
 use Rattle.pim_import.specs.LeftOut.{Keeps}
-use Rattle.pim_import.specs.Seeing.{AreSeen, BeganSo, IsEmpty, IsHeldAt, IsNew, LastOn, Sees, SeesBy}
-use Rattle.pim_import.specs.TakingPart.{AppearsBy, AppearsIn, BeginInTrace, BeginsAsMutex, BeginsAsThread}
-use Rattle.pim_import.specs.TakingPart.{IsInTrace, appearing}
+use Rattle.pim_import.specs.Seeing.{AreSeen, BeganSo, EndedSo, EndOrStay, IsEmpty, IsHeldAt, IsNew, LastOn, Sees, SeesBy}
+use Rattle.pim_import.specs.TakingPart.{AppearsBy, AppearsIn, BeginInTrace, BeginsAsMutex, BeginsAsThread, EndInTrace}
+use Rattle.pim_import.specs.TakingPart.{EndsAsMutex, EndsAsThread, IsInTrace, OwnsOrAwaits, appearing}
 use Rattle.pim_import.specs.declared.critical_sections.CriticalSections.{CriticalSections}
 use Rattle.pim_import.specs.declared.seen.Appearing.{Appearing}
 use Rattle.pim_import.specs.declared.seen.Seen.{Seen}
 use Rattle.pim_import.proofs.Seeing.{none-is}
 
--- whoever takes part begins to as it appears in this way, and each grant that is kept is of this kind
+-- whoever takes part does so up to the record at which it appears by a fact in the trace that is of this kind
+pub record EndSo (Kind : Appearing → Type 0) (sections : CriticalSections) (participants : Participants) : Type 0 where
+  pub threads : (one : ℕ) (participant : Participant) →
+      slice_index_or participants.threads.items one None ≡ Some participant →
+      (by : Appearing) × (IsInTrace Kind sections by × EndsAsThread one participant by)
+  pub mutexes : (one : ℕ) (participant : Participant) →
+      slice_index_or participants.mutexes.items one None ≡ Some participant →
+      (by : Appearing) × (IsInTrace Kind sections by × EndsAsMutex one participant by)
+
+-- whoever takes part begins to and stops as it appears in this way, and each grant that is kept is of this kind
 pub record Begun (Kind : Appearing → Type 0) (sections : CriticalSections) (seen : Seen) : Type 0 where
   pub begin : BeginInTrace Kind sections seen.participants
+  pub end : EndSo Kind sections seen.participants
   pub grants : (m : ℕ) (grant : Appearing) → IsHeldAt seen m grant → Kind grant
 
 began-thread : (old : List (Option Participant)) (one : ℕ) (participant : Participant) (so : BeganSo old one participant)
@@ -31,6 +41,14 @@ began-mutex : (old : List (Option Participant)) (one : ℕ) (participant : Parti
 began-mutex old one participant so by begins =
     record { is = begins.is; first = so.first ∙ begins.first; level = so.level ∙ begins.level }
 
+ended-thread : (old : List (Option Participant)) (one : ℕ) (participant : Participant) (so : EndedSo old one participant)
+    (by : Appearing) → EndsAsThread one so.before by → EndsAsThread one participant by
+ended-thread old one participant so by ends = record { is = ends.is; last = so.last ∙ ends.last }
+
+ended-mutex : (old : List (Option Participant)) (one : ℕ) (participant : Participant) (so : EndedSo old one participant)
+    (by : Appearing) → EndsAsMutex one so.before by → EndsAsMutex one participant by
+ended-mutex old one participant so by ends = record { is = ends.is; last = so.last ∙ ends.last }
+
 no-participant : (participant : Participant) → None ≡ Some participant → ⊥
 no-participant participant e = cc
 
@@ -40,6 +58,10 @@ pub begun-none : (Kind : Appearing → Type 0) (sections : CriticalSections) (se
 begun-none Kind sections seen empty =
     record {
       begin = record {
+        threads = λ one participant is. absurd (no-participant participant (sym (empty.threads one) ∙ is));
+        mutexes = λ one participant is. absurd (no-participant participant (sym (empty.mutexes one) ∙ is));
+      };
+      end = record {
         threads = λ one participant is. absurd (no-participant participant (sym (empty.threads one) ∙ is));
         mutexes = λ one participant is. absurd (no-participant participant (sym (empty.mutexes one) ∙ is));
       };
@@ -69,6 +91,14 @@ begun-more Old New before after seen more still begun =
             (x.0, (in-more Old New before after x.0 more still x.1.0, x.1.1));
         mutexes = λ one participant is.
             let x = begun.begin.mutexes one participant is in
+            (x.0, (in-more Old New before after x.0 more still x.1.0, x.1.1));
+      };
+      end = record {
+        threads = λ one participant is.
+            let x = begun.end.threads one participant is in
+            (x.0, (in-more Old New before after x.0 more still x.1.0, x.1.1));
+        mutexes = λ one participant is.
+            let x = begun.end.mutexes one participant is in
             (x.0, (in-more Old New before after x.0 more still x.1.0, x.1.1));
       };
       grants = λ m grant held. more grant (begun.grants m grant held);
@@ -105,6 +135,20 @@ sees-begun n k Kind sections fact now old new own is sees begun =
           | inl so ↦
               let x = begun.begin.mutexes one so.before so.took in
               (x.0, (x.1.0, began-mutex old.participants.mutexes.items one participant so x.0 x.1.1))
+          | inr by ↦ (by.0, (in-trace Kind sections fact now old by.0 own is begun by.1.0, by.1.1))
+        ];
+      };
+      end = record {
+        threads = λ one participant took. elim (sees.end.threads one participant took) [
+          | inl so ↦
+              let x = begun.end.threads one so.before so.took in
+              (x.0, (x.1.0, ended-thread old.participants.threads.items one participant so x.0 x.1.1))
+          | inr by ↦ (by.0, (in-trace Kind sections fact now old by.0 own is begun by.1.0, by.1.1))
+        ];
+        mutexes = λ one participant took. elim (sees.end.mutexes one participant took) [
+          | inl so ↦
+              let x = begun.end.mutexes one so.before so.took in
+              (x.0, (x.1.0, ended-mutex old.participants.mutexes.items one participant so x.0 x.1.1))
           | inr by ↦ (by.0, (in-trace Kind sections fact now old by.0 own is begun by.1.0, by.1.1))
         ];
       };
@@ -152,4 +196,23 @@ begun-last Kind sections old new last begin =
           let so = last.begin_mutexes one participant is in
           let x = begin.mutexes one so.before so.took in
           (x.0, (x.1.0, began-mutex old.mutexes.items one participant so x.0 x.1.1));
+    }
+
+-- and whoever takes part does so up to such a record, or up to the end
+pub ended-last : (Kind : Appearing → Type 0) (course : Course) (sections : CriticalSections) (old new : Participants) →
+    EndOrStay old new (OwnsOrAwaits course sections new) → EndSo Kind sections old → EndInTrace Kind course sections new
+ended-last Kind course sections old new last end =
+    record {
+      threads = λ one participant is. elim (last.threads one participant is) [
+        | inl so ↦
+            let x = end.threads one so.before so.took in
+            inl (x.0, (x.1.0, ended-thread old.threads.items one participant so x.0 x.1.1))
+        | inr stays ↦ inr stays
+      ];
+      mutexes = λ one participant is. elim (last.mutexes one participant is) [
+        | inl so ↦
+            let x = end.mutexes one so.before so.took in
+            inl (x.0, (x.1.0, ended-mutex old.mutexes.items one participant so x.0 x.1.1))
+        | inr stays ↦ inr stays
+      ];
     }

@@ -16,12 +16,12 @@ use Rattle.pim_findings.specs.Orders.{KnowsOrders}
 use Rattle.pim_findings.specs.Ownerships.{Owns}
 use Rattle.pim_findings.specs.Waits.{Moment}
 use Rattle.pim_findings.specs.declared.findings.Findings.{Findings}
-use Rattle.pim_builder.specs.Faults.{IsContradiction, NamesNone, NamesOnly}
+use Rattle.pim_numbers.specs.Faults.{IsContradiction, NamesNone, NamesOnly}
 use Rattle.pim_builder.specs.Shown.{AreShown}
 use Rattle.pim_builder.specs.declared.builder.Context.{Context}
 use Rattle.pim_builder.specs.Views.{BuilderState}
-use Rattle.pim_builder.specs.declared.fault.ImportFault.{ImportFault}
-use Rattle.pim_builder.specs.declared.fault.ImportFault.TheVariants.{Contradiction}
+use Rattle.pim_numbers.specs.declared.fault.ImportFault.{ImportFault}
+use Rattle.pim_numbers.specs.declared.fault.ImportFault.TheVariants.{Contradiction}
 use Rattle.pim_import.specs.Contradicting.{Contradicts, ContradictsAt}
 use Rattle.pim_import.specs.Following.{HasAdded, HasFollowed, IsLacking, IsOfThread, IsSpared, Knows}
 use Rattle.pim_import.specs.Following.{facts_of, stage_of}

@@ -17,3 +17,4 @@ pub mod Seeing
 pub mod Acting
 pub mod TakingPart
 pub mod Beginning
+pub mod Ending

@@ -1,9 +1,9 @@
 -- Which record of a log a fault names.
 use Rattle.std.proofs.Common.{◌≡◌, ℕ, subst, sym}
-use Rattle.pim_builder.specs.Faults.{NamesNone, NamesOneOf, NamesOnly}
-use Rattle.pim_builder.specs.declared.fault.ImportFault.{ImportFault}
-use Rattle.pim_builder.specs.declared.fault.ImportFault.TheVariants.{Contradiction, TooManyThreads, Crowded}
-use Rattle.pim_builder.specs.declared.fault.ImportFault.TheVariants.{TooManyPriorities, Memory}
+use Rattle.pim_numbers.specs.Faults.{NamesNone, NamesOneOf, NamesOnly}
+use Rattle.pim_numbers.specs.declared.fault.ImportFault.{ImportFault}
+use Rattle.pim_numbers.specs.declared.fault.ImportFault.TheVariants.{Contradiction, TooManyThreads, Crowded}
+use Rattle.pim_numbers.specs.declared.fault.ImportFault.TheVariants.{TooManyPriorities, Memory}
 use Rattle.pim_import.specs.Imports.{IsOfTrace}
 
 -- a fault that names no record names none outside of the log

@@ -1,10 +1,10 @@
 -- Why there is no import of a log.
 use Rattle.std.proofs.Common.{◌≡◌, ℕ, Bool, List, refl}
 use Rattle.pim_requests.specs.declared.waits.Wait.{Wait}
-use Rattle.pim_builder.specs.Faults.{NamesNone}
-use Rattle.pim_builder.specs.declared.fault.ImportFault.{ImportFault}
-use Rattle.pim_builder.specs.declared.fault.ImportFault.TheVariants.{Contradiction, TooManyThreads, Crowded}
-use Rattle.pim_builder.specs.declared.fault.ImportFault.TheVariants.{TooManyPriorities, Memory}
+use Rattle.pim_numbers.specs.Faults.{NamesNone}
+use Rattle.pim_numbers.specs.declared.fault.ImportFault.{ImportFault}
+use Rattle.pim_numbers.specs.declared.fault.ImportFault.TheVariants.{Contradiction, TooManyThreads, Crowded}
+use Rattle.pim_numbers.specs.declared.fault.ImportFault.TheVariants.{TooManyPriorities, Memory}
 use Rattle.pim_import.specs.Imports.{IsContradicted, IsCrowdedLog, IsOfTrace, IsRefused}
 
 -- numbers are missing only if the log is crowded

@@ -4,20 +4,22 @@ use Rattle.std.proofs.Common.{ap, arith, inl, inr, refl, slice_index_or, subst, 
 use Rattle.std.proofs.lemmas.Bool.{cases_eq, cases_lt}
 use Rattle.std.proofs.lemmas.List.{take_more}
 use Rattle.std.specs.Option.{unwrap_or}
-use Rattle.pim_builder.specs.declared.participants.Participant.{Participant}
-use Rattle.pim_builder.specs.declared.participants.Participants.{Participants}
+use Rattle.pim_numbers.specs.declared.participants.Participant.{Participant}
+use Rattle.pim_numbers.specs.declared.participants.Participants.{Participants}
 use Rattle.pim_facts.specs.declared.fact.Fact.{Fact}
 use Rattle.pim_facts.specs.declared.fact.What.{What}
 use Rattle.pim_facts.specs.declared.fact.What.TheVariants.{Granted, Waits, GaveUp, Released, Level, Ceiling}
 use Rattle.pim_course.specs.declared.course.Course.{Course}
 use Rattle.pim_course.specs.Courses.{mutex_in, thread_in}
 use Rattle.pim_import.specs.LeftOut.{IsKept, Keeps}
-use Rattle.pim_import.specs.Seeing.{AreSeen, BeganSo, BeginOrBefore, HasPlaces, HasSizes, IsHeld, IsHeldAt, IsNew}
-use Rattle.pim_import.specs.Seeing.{IsNoted, LastOn, Sees, SeesBy}
-use Rattle.pim_import.specs.TakingPart.{LastsToEnd, OwnersStay, TakesPartAt, WaitersStay, appearing}
+use Rattle.pim_import.specs.Seeing.{AreSeen, BeganSo, BeginOrBefore, EndOrBefore, HasPlaces, HasSizes, IsHeld, IsHeldAt}
+use Rattle.pim_import.specs.Seeing.{IsNew, IsNoted, LastOn, Sees, SeesBy}
+use Rattle.pim_import.specs.TakingPart.{AwaitsInTrace, LastsToEnd, OwnersStay, OwnsInTrace, TakesPartAt, WaitersStay}
+use Rattle.pim_import.specs.TakingPart.{appearing}
 use Rattle.pim_import.specs.declared.critical_sections.CriticalSections.{CriticalSections}
 use Rattle.pim_import.specs.declared.seen.Appearing.{Appearing}
 use Rattle.pim_import.specs.declared.seen.Seen.{Seen}
+use Rattle.pim_import.proofs.Ending.{end-more, end-then}
 
 -- an appearance is noted
 pub record Notes (one : Appearing) (old new : Seen) : Type 0 where
@@ -26,6 +28,7 @@ pub record Notes (one : Appearing) (old new : Seen) : Type 0 where
   pub still : (other : Appearing) → IsNoted old other → IsNoted new other
   pub noted : (n k : ℕ) → HasSizes n k old → HasPlaces n k one → IsNoted new one
   pub begin : BeginOrBefore old.participants new.participants (λ by. by ≡ one)
+  pub end : EndOrBefore old.participants new.participants (λ by. by ≡ one)
 
 -- no grant of a mutex is kept any longer
 pub record Drops (m : ℕ) (old new : Seen) : Type 0 where
@@ -144,6 +147,9 @@ sees-none n k sections fact now old new kept sizes notes none =
       begin =
           begin-more old.participants new.participants (λ by. by ≡ now) (IsNew sections fact now old)
           (λ by is. (kept, inl is)) notes.begin;
+      end =
+          end-more old.participants new.participants (λ by. by ≡ now) (IsNew sections fact now old)
+          (λ by is. (kept, inl is)) notes.end;
       grants = λ m grant held. inl (held-back m now grant old new notes held);
     }
 
@@ -181,6 +187,14 @@ sees-some n k sections fact now grant old mid then new kept sizes is own drops f
     (subst (λ m. IsHeldAt old m other) at held) in
     notes.still other
     (subst (IsNoted then) (sym same) (first.noted n k within (subst (HasPlaces n k) same places))) in
+    let by_grant : (by : Appearing) → by ≡ grant → IsNew sections fact now old by =
+    λ by same. (
+      kept,
+      inr (
+        subst (IsHeldAt old now.mutex) (sym same) is,
+        ap (λ (one : Appearing). one.section) same ∙ own,
+      ),
+    ) in
     record {
       sizes = notes.sizes n k has;
       still = λ one noted. notes.still one (first.still one (dropped-still now.mutex old mid one drops noted));
@@ -196,15 +210,11 @@ sees-some n k sections fact now grant old mid then new kept sizes is own drops f
       begin =
           subst (λ p. BeginOrBefore p new.participants (IsNew sections fact now old)) drops.participants
           (begin-then mid.participants then.participants new.participants (λ by. by ≡ grant) (λ by. by ≡ now)
-          (IsNew sections fact now old)
-          (λ by same. (
-            kept,
-            inr (
-              subst (IsHeldAt old now.mutex) (sym same) is,
-              ap (λ (one : Appearing). one.section) same ∙ own,
-            ),
-          ))
-          (λ by same. (kept, inl same)) first.begin notes.begin);
+          (IsNew sections fact now old) by_grant (λ by same. (kept, inl same)) first.begin notes.begin);
+      end =
+          subst (λ p. EndOrBefore p new.participants (IsNew sections fact now old)) drops.participants
+          (end-then mid.participants then.participants new.participants (λ by. by ≡ grant) (λ by. by ≡ now)
+          (IsNew sections fact now old) by_grant (λ by same. (kept, inl same)) first.end notes.end);
       grants = λ m other held.
           inl (drops.held m other (held-back m grant other mid then first (held-back m now other then new notes held)));
     }
@@ -271,55 +281,68 @@ seen-sizes n k sections course number (fact ∷ facts) old new seen sizes =
 -- who stays up to the end still does
 pub owners-still : (course : Course) (sections : CriticalSections) (n : ℕ) (old new : Participants) → LastOn old new →
     OwnersStay course sections n old → OwnersStay course sections n new
-owners-still course sections n old new last stay m t i above below owner section kept =
-    let x = stay m t i above below owner section kept in (last.stay_threads t x.0, last.stay_mutexes m x.1)
+owners-still course sections n old new last stay t m i owns =
+    let x = stay t m i owns in (last.stay_threads t x.0, last.stay_mutexes m x.1)
 
 pub waiters-still : (course : Course) (sections : CriticalSections) (n : ℕ) (old new : Participants) → LastOn old new →
     WaitersStay course sections n old → WaitersStay course sections n new
-waiters-still course sections n old new last stay t m i above below awaits section kept =
-    let x = stay t m i above below awaits section kept in (last.stay_threads t x.0, last.stay_mutexes m x.1)
+waiters-still course sections n old new last stay t m i awaits =
+    let x = stay t m i awaits in (last.stay_threads t x.0, last.stay_mutexes m x.1)
+
+-- a mutex is owned, and a thread awaits one, whatever number theirs is below
+owned-below : (course : Course) (sections : CriticalSections) (n k t m i : ℕ) → m < k →
+    OwnsInTrace course sections n t m i → OwnsInTrace course sections k t m i
+owned-below course sections n k t m i lt owns =
+    record { above = owns.above; below = lt; owner = owns.owner; section = owns.section; kept = owns.kept }
+
+awaits-below : (course : Course) (sections : CriticalSections) (n k t m i : ℕ) → t < k →
+    AwaitsInTrace course sections n t m i → AwaitsInTrace course sections k t m i
+awaits-below course sections n k t m i lt awaits =
+    record { above = awaits.above; below = lt; awaits = awaits.awaits; section = awaits.section; kept = awaits.kept }
 
 -- and one more does
 pub owners-more : (course : Course) (sections : CriticalSections) (n : ℕ) (old new : Participants) → LastOn old new →
     ((t i : ℕ) → (mutex_in course n).owner ≡ Some t → (mutex_in course n).section ≡ Some i → Keeps sections i →
     LastsToEnd new.threads.items t × LastsToEnd new.mutexes.items n) →
     OwnersStay course sections n old → OwnersStay course sections (n + 1) new
-owners-more course sections n old new last one stay m t i above below owner section kept = elim (cases_lt m n) [
-  | inl lt ↦ owners-still course sections n old new last stay m t i above lt owner section kept
+owners-more course sections n old new last one stay t m i owns = elim (cases_lt m n) [
+  | inl lt ↦
+      owners-still course sections n old new last stay t m i (owned-below course sections (n + 1) n t m i lt owns)
   | inr ge ↦
-      let at : m ≡ n = omega (arith, ge, below) in
+      let at : m ≡ n = omega (arith, ge, owns.below) in
       subst (λ j. LastsToEnd new.threads.items t × LastsToEnd new.mutexes.items j) (sym at)
-      (one t i (subst (λ j. (mutex_in course j).owner ≡ Some t) at owner)
-      (subst (λ j. (mutex_in course j).section ≡ Some i) at section) kept)
+      (one t i (subst (λ j. (mutex_in course j).owner ≡ Some t) at owns.owner)
+      (subst (λ j. (mutex_in course j).section ≡ Some i) at owns.section) owns.kept)
 ]
 
 pub waiters-more : (course : Course) (sections : CriticalSections) (n : ℕ) (old new : Participants) → LastOn old new →
     ((m i : ℕ) → (thread_in course n).awaits ≡ Some m → (thread_in course n).section ≡ Some i → Keeps sections i →
     LastsToEnd new.threads.items n × LastsToEnd new.mutexes.items m) →
     WaitersStay course sections n old → WaitersStay course sections (n + 1) new
-waiters-more course sections n old new last one stay t m i above below awaits section kept = elim (cases_lt t n) [
-  | inl lt ↦ waiters-still course sections n old new last stay t m i above lt awaits section kept
+waiters-more course sections n old new last one stay t m i awaits = elim (cases_lt t n) [
+  | inl lt ↦
+      waiters-still course sections n old new last stay t m i (awaits-below course sections (n + 1) n t m i lt awaits)
   | inr ge ↦
-      let at : t ≡ n = omega (arith, ge, below) in
+      let at : t ≡ n = omega (arith, ge, awaits.below) in
       subst (λ j. LastsToEnd new.threads.items j × LastsToEnd new.mutexes.items m) (sym at)
-      (one m i (subst (λ j. (thread_in course j).awaits ≡ Some m) at awaits)
-      (subst (λ j. (thread_in course j).section ≡ Some i) at section) kept)
+      (one m i (subst (λ j. (thread_in course j).awaits ≡ Some m) at awaits.awaits)
+      (subst (λ j. (thread_in course j).section ≡ Some i) at awaits.section) awaits.kept)
 ]
 
 pub owners-none : (course : Course) (sections : CriticalSections) (participants : Participants) →
     OwnersStay course sections 1 participants
-owners-none course sections participants m t i above below owner section kept = absurd (omega (arith, above, below))
+owners-none course sections participants t m i owns = absurd (omega (arith, owns.above, owns.below))
 
 pub waiters-none : (course : Course) (sections : CriticalSections) (participants : Participants) →
     WaitersStay course sections 1 participants
-waiters-none course sections participants t m i above below awaits section kept = absurd (omega (arith, above, below))
+waiters-none course sections participants t m i awaits = absurd (omega (arith, awaits.above, awaits.below))
 
 pub owners-fewer : (course : Course) (sections : CriticalSections) (n k : ℕ) (participants : Participants) → k ≤ n →
     OwnersStay course sections n participants → OwnersStay course sections k participants
-owners-fewer course sections n k participants le stay m t i above below owner section kept =
-    stay m t i above (omega (arith, le, below)) owner section kept
+owners-fewer course sections n k participants le stay t m i owns =
+    stay t m i (owned-below course sections k n t m i (omega (arith, le, owns.below)) owns)
 
 pub waiters-fewer : (course : Course) (sections : CriticalSections) (n k : ℕ) (participants : Participants) → k ≤ n →
     WaitersStay course sections n participants → WaitersStay course sections k participants
-waiters-fewer course sections n k participants le stay t m i above below awaits section kept =
-    stay t m i above (omega (arith, le, below)) awaits section kept
+waiters-fewer course sections n k participants le stay t m i awaits =
+    stay t m i (awaits-below course sections k n t m i (omega (arith, le, awaits.below)) awaits)

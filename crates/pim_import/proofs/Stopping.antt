@@ -2,14 +2,13 @@
 use Rattle.std.proofs.Common.{◌≡◌, ℕ, ◌+◌, ◌<◌, ◌∙◌, ◌++◌, Bool, List, [], ◌∷◌, length, get_or, take, drop, Result, Ok, Err}
 use Rattle.std.proofs.Common.{IfErr, inr, ap, sym}
 use Rattle.std.proofs.lemmas.List.{drop_more, take-append-drop}
-use Rattle.pim_builder.specs.Faults.{IsContradiction}
-use Rattle.pim_builder.specs.Pieces.{HasRoom}
+use Rattle.pim_numbers.specs.Faults.{IsContradiction}
 use Rattle.pim_builder.specs.Refusing.{CannotShow}
 use Rattle.pim_builder.specs.Shown.{AreShownBy, Dated, Stage}
 use Rattle.pim_builder.specs.Views.{replay_now}
 use Rattle.pim_builder.specs.declared.builder.Context.{Context}
 use Rattle.pim_builder.specs.Views.{BuilderState}
-use Rattle.pim_builder.specs.declared.fault.ImportFault.{ImportFault}
+use Rattle.pim_numbers.specs.declared.fault.ImportFault.{ImportFault}
 use Rattle.pim_course.specs.declared.course.Course.{Course}
 use Rattle.pim_facts.specs.Shown.{shown_in}
 use Rattle.pim_facts.specs.declared.fact.Fact.{Fact}
@@ -30,13 +29,13 @@ shown-in-order context (latest ∷ facts) stage (before, earlier, leads, timed, 
 -- a fact that is kept, and that the trace can't show if showing it fails, can't go into the trace
 pub kept-unfit : (context : Context) (sections : CriticalSections) (course : Course) (time : ℕ) (fact : Fact)
     (found : Findings) (builder : BuilderState) (shown : Result Bool ImportFault) → IsKept sections fact →
-    (IsInOrder (replay_now builder) → HasRoom builder.pieces.piece →
+    (IsInOrder (replay_now builder) →
     IfErr shown (λ fault. IsContradiction fault → CannotShow context time fact.what fact builder)) →
     IfErr shown (λ fault. IsContradiction fault → (n k : ℕ) (facts : List Moment) →
     Knows context n k sections facts found builder → IsUnfit context n sections course time fact builder)
 kept-unfit context sections course time fact found builder (Ok is_used) kept justified = tt
 kept-unfit context sections course time fact found builder (Err fault) kept justified = λ is n k facts knows.
-    inr (inr (kept, λ room. justified (shown-in-order context _ _ knows.trace.shown) room is))
+    inr (inr (kept, justified (shown-in-order context _ _ knows.trace.shown) is))
 
 -- the course stops at a fact that it shows: those before it are known, and it can't go into the trace
 pub stops-at : (context : Context) (n k : ℕ) (sections : CriticalSections) (course : Course) (time : ℕ)

@@ -28,21 +28,21 @@ use Rattle.pim_course.proofs.Covered.{has-those}
 use Rattle.pim_requests.specs.Laws.{HasBoth}
 use Rattle.pim_requests.specs.declared.waits.Wait.{Wait}
 use Rattle.pim_requests.proofs.Having.{has-requests}
-use Rattle.pim_builder.specs.declared.participants.Participants.{Participants}
+use Rattle.pim_numbers.specs.declared.participants.Participants.{Participants}
 use Rattle.pim_findings.specs.Waits.{Moment}
 use Rattle.pim_import.specs.Following.{AreAdded, AreOfLog, ArePlaced, GoesByRequest, IsLacking, IsWay, Stage}
 use Rattle.pim_import.specs.Following.{facts_of, moment_of, moments_of, stage_of}
 use Rattle.pim_import.specs.KeptSections.{KeepsThoseOf, MustBeKept, room_of}
 use Rattle.pim_import.specs.LeftOut.{IsKept, Keeps, MustStay}
-use Rattle.pim_import.specs.Seeing.{AreSeen, HasSizes, IsEmpty, LastOn, StillTakePart}
-use Rattle.pim_import.specs.TakingPart.{AllTakePart, AppearsOn, OfMutex, StayToEnd, TakePartAt}
+use Rattle.pim_import.specs.Seeing.{AreSeen, EndOrStay, HasSizes, IsEmpty, LastOn, StillTakePart}
+use Rattle.pim_import.specs.TakingPart.{AllTakePart, AppearsOn, OfMutex, OwnsOrAwaits, StayToEnd, TakePartAt}
 use Rattle.pim_import.specs.TakingPart.{TakePartByLog, TakesPartAt, appearing}
 use Rattle.pim_import.specs.declared.critical_sections.CriticalSections.{CriticalSections}
 use Rattle.pim_import.specs.declared.seen.Appearing.{Appearing}
 use Rattle.pim_import.specs.declared.seen.Seen.{Seen}
 use Rattle.pim_import.proofs.Acting.{IsFine, IsNamed, OfFacts, facts-step, of-facts-more}
 use Rattle.pim_import.proofs.Adding.{all-added}
-use Rattle.pim_import.proofs.Beginning.{Begun, begun-last, begun-more, begun-none, facts-begun}
+use Rattle.pim_import.proofs.Beginning.{Begun, begun-last, begun-more, begun-none, ended-last, facts-begun}
 use Rattle.pim_import.proofs.Going.{Adds, all-same, goes-by-record, goes-by-request}
 use Rattle.pim_import.proofs.KeptSections.{LooksAt}
 use Rattle.pim_import.proofs.Lasting.{Fits, fits-begin, fits-more, fits-told}
@@ -386,9 +386,11 @@ all-part n k sources kept s seen (stage ∷ stages) participants threads mutexes
 pub seen-log : (bytes : List ℕ) (sources : Sources) (is_all : Bool) (end : ℕ) (walk : Walk) (sections : CriticalSections)
     (seen : Seen) (participants : Participants) → end ≡ end_of (header_of bytes) →
     ArePlaced bytes sources.requests.list.items → AreAdded sources.requests.list.items (end - 1) walk.added →
-    LastOn seen.participants participants → StayToEnd walk.course sections participants →
+    LastOn seen.participants participants →
+    EndOrStay seen.participants participants (OwnsOrAwaits walk.course sections participants) →
+    StayToEnd walk.course sections participants →
     HasSeen bytes sources is_all (end - 1) walk sections seen → TakePartByLog bytes sources sections participants
-seen-log bytes sources is_all end walk sections seen participants is placed added last stay has =
+seen-log bytes sources is_all end walk sections seen participants is placed added last ends stay has =
     record {
       last = stage_of (end - 1) has.record_time has.time walk;
       before = has.before;
@@ -399,6 +401,8 @@ seen-log bytes sources is_all end walk sections seen participants is placed adde
           (stage_of (end - 1) has.record_time has.time walk ∷ has.before) participants last.threads last.mutexes has.fine;
       begin = begun-last (AppearsOn (stage_of (end - 1) has.record_time has.time walk ∷ has.before)) sections
           seen.participants participants last has.begun.begin;
+      end = ended-last (AppearsOn (stage_of (end - 1) has.record_time has.time walk ∷ has.before)) walk.course sections
+          seen.participants participants ends has.begun.end;
       stay = stay;
     }
 

@@ -5,7 +5,6 @@ use Rattle.pim_facts.specs.declared.fact.Fact.{Fact}
 use Rattle.pim_course.specs.declared.course.Course.{Course}
 use Rattle.pim_findings.specs.Waits.{Moment}
 use Rattle.pim_findings.specs.declared.findings.Findings.{Findings}
-use Rattle.pim_builder.specs.Pieces.{HasRoom}
 use Rattle.pim_builder.specs.Refusing.{CannotShow}
 use Rattle.pim_builder.specs.declared.builder.Context.{Context}
 use Rattle.pim_builder.specs.Views.{BuilderState}
@@ -14,13 +13,12 @@ use Rattle.pim_import.specs.LeftOut.{IsKept, MayBeLeftOut}
 use Rattle.pim_import.specs.declared.critical_sections.CriticalSections.{CriticalSections}
 
 -- A fact doesn't fit the trace that is being made: its thread isn't below n; or it isn't of a critical section that is
--- kept, and the trace may not be without it; or it is kept, and the trace can't show it. Of a piece that is nearly full
--- the last isn't said.
+-- kept, and the trace may not be without it; or it is kept, and the trace can't show it.
 abbrev pub IsUnfit : Context → ℕ → CriticalSections → Course → ℕ → Fact → BuilderState → Type 0
 IsUnfit context n sections course time fact builder =
     ¬ (fact.thread < n)
     ⊎ (¬ (IsKept sections fact ⊎ MayBeLeftOut course context.sources.now fact)
-    ⊎ (IsKept sections fact × (HasRoom builder.pieces.piece → CannotShow context time fact.what fact builder)))
+    ⊎ (IsKept sections fact × CannotShow context time fact.what fact builder))
 
 -- of the facts that a course shows, the first ones are known behind those before, and the next one doesn't fit the trace
 pub record StopsShowing (context : Context) (n k : ℕ) (sections : CriticalSections) (course : Course) (time : ℕ)

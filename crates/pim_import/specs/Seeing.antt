@@ -1,13 +1,14 @@
 -- How who takes part is noted, a fact after the other.
-use Rattle.std.specs.Prelude.{◌≡◌, ◌⊎◌, ◌<◌, ℕ, List, [], ◌∷◌, length, slice_index_or, Option, Some, None}
+use Rattle.std.specs.Prelude.{◌≡◌, ◌⊎◌, ◌-◌, ◌^◌, ◌<◌, ℕ, List, [], ◌∷◌, length, slice_index_or, Option, Some, None}
 use Rattle.pim_facts.specs.declared.fact.Fact.{Fact}
 use Rattle.pim_facts.specs.declared.fact.What.{What}
 use Rattle.pim_facts.specs.declared.fact.What.TheVariants.{Granted, Waits, GaveUp, Released, Level, Ceiling}
 use Rattle.pim_course.specs.declared.course.Course.{Course}
-use Rattle.pim_builder.specs.declared.participants.Participant.{Participant}
-use Rattle.pim_builder.specs.declared.participants.Participants.{Participants}
-use Rattle.pim_import.specs.LeftOut.{IsKept}
-use Rattle.pim_import.specs.TakingPart.{BeginsAsMutex, BeginsAsThread, LastsToEnd, TakesPartAt, appearing}
+use Rattle.pim_numbers.specs.declared.participants.Participant.{Participant}
+use Rattle.pim_numbers.specs.declared.participants.Participants.{Participants}
+use Rattle.pim_import.specs.LeftOut.{IsKept, Keeps}
+use Rattle.pim_import.specs.TakingPart.{BeginsAsMutex, BeginsAsThread, EndsAsMutex, EndsAsThread, LastsToEnd}
+use Rattle.pim_import.specs.TakingPart.{TakesPartAt, appearing}
 use Rattle.pim_import.specs.declared.critical_sections.CriticalSections.{CriticalSections}
 use Rattle.pim_import.specs.declared.seen.Appearing.{Appearing}
 use Rattle.pim_import.specs.declared.seen.Seen.{Seen}
@@ -27,6 +28,27 @@ pub record BeganSo (old : List (Option Participant)) (one : ℕ) (participant : 
 abbrev pub StillBegin : List (Option Participant) → List (Option Participant) → Type 0
 StillBegin old new = (one : ℕ) (participant : Participant) → slice_index_or new one None ≡ Some participant →
     BeganSo old one participant
+
+-- it took part before, and up to the same record as now
+pub record EndedSo (old : List (Option Participant)) (one : ℕ) (participant : Participant) : Type 0 where
+  pub before : Participant
+  pub took : slice_index_or old one None ≡ Some before
+  pub last : participant.span.last ≡ before.span.last
+
+-- whoever takes part did so before, up to the same record, or does so up to the end, and this is true of it
+abbrev pub EndOrLast : List (Option Participant) → List (Option Participant) → (ℕ → Type 0) → Type 0
+EndOrLast old new Is = (one : ℕ) (participant : Participant) → slice_index_or new one None ≡ Some participant →
+    EndedSo old one participant ⊎ ((participant.span.last ≡ 2 ^ 64 - 1) × Is one)
+
+-- whoever takes part did so before, up to the same record, or does so up to the end, with a mutex or a thread so related
+pub record EndOrStay (old new : Participants) (Stay : ℕ → ℕ → Type 0) : Type 0 where
+  pub threads : EndOrLast old.threads.items new.threads.items (λ t. (m : ℕ) × Stay t m)
+  pub mutexes : EndOrLast old.mutexes.items new.mutexes.items (λ m. (t : ℕ) × Stay t m)
+
+-- these are the thread and the mutex, and the critical section is in the trace
+abbrev pub AreIn : CriticalSections → Option ℕ → Option ℕ → Option ℕ → ℕ → ℕ → Type 0
+AreIn sections section thread mutex t m =
+    (thread ≡ Some t) × (mutex ≡ Some m) × ((i : ℕ) × ((section ≡ Some i) × Keeps sections i))
 
 -- Who took part still does, up to the end if it did so before. Whoever takes part did before, and began to as now.
 pub record LastOn (old new : Participants) : Type 0 where
@@ -52,6 +74,15 @@ pub record BeginOrBefore (old new : Participants) (Is : Appearing → Type 0) : 
   pub mutexes : (one : ℕ) (participant : Participant) → slice_index_or new.mutexes.items one None ≡ Some participant →
       BeganSo old.mutexes.items one participant
       ⊎ ((by : Appearing) × (Is by × BeginsAsMutex one participant by))
+
+-- whoever takes part did so before, up to the same record, or does so up to the record at which this one appears
+pub record EndOrBefore (old new : Participants) (Is : Appearing → Type 0) : Type 0 where
+  pub threads : (one : ℕ) (participant : Participant) → slice_index_or new.threads.items one None ≡ Some participant →
+      EndedSo old.threads.items one participant
+      ⊎ ((by : Appearing) × (Is by × EndsAsThread one participant by))
+  pub mutexes : (one : ℕ) (participant : Participant) → slice_index_or new.mutexes.items one None ≡ Some participant →
+      EndedSo old.mutexes.items one participant
+      ⊎ ((by : Appearing) × (Is by × EndsAsMutex one participant by))
 
 -- this grant is kept for a mutex
 abbrev pub IsHeldAt : Seen → ℕ → Appearing → Type 0
@@ -102,6 +133,7 @@ pub record Sees (n k : ℕ) (sections : CriticalSections) (fact : Fact) (now : A
       IsHeld new grant ⊎ (IsNoted new grant
       ⊎ ((IsKept sections fact → ⊥) × (IsGrant fact.what × (grant.mutex ≡ now.mutex))))
   pub begin : BeginOrBefore old.participants new.participants (IsNew sections fact now old)
+  pub end : EndOrBefore old.participants new.participants (IsNew sections fact now old)
   pub grants : (m : ℕ) (grant : Appearing) → IsHeldAt new m grant → IsHeldAt old m grant ⊎ (grant ≡ now)
 
 -- a fact is seen by what it says; a level or a ceiling changes nothing

@@ -10,8 +10,8 @@ use Rattle.pim_facts.specs.declared.fact.What.TheVariants.{Granted, Waits, GaveU
 use Rattle.pim_course.specs.Courses.{mutex_in, thread_in}
 use Rattle.pim_course.specs.declared.course.Course.{Course}
 use Rattle.pim_course.specs.declared.course.Sources.{Sources}
-use Rattle.pim_builder.specs.declared.participants.Participant.{Participant}
-use Rattle.pim_builder.specs.declared.participants.Participants.{Participants}
+use Rattle.pim_numbers.specs.declared.participants.Participant.{Participant}
+use Rattle.pim_numbers.specs.declared.participants.Participants.{Participants}
 use Rattle.pim_import.specs.Following.{IsWay, Stage}
 use Rattle.pim_import.specs.LeftOut.{IsKept, Keeps}
 use Rattle.pim_import.specs.declared.critical_sections.CriticalSections.{CriticalSections}
@@ -110,16 +110,30 @@ abbrev pub LastsToEnd : List (Option Participant) → ℕ → Type 0
 LastsToEnd participants one = (participant : Participant) → slice_index_or participants one None ≡ Some participant →
     participant.span.last ≡ 2 ^ 64 - 1
 
--- who owns a mutex below n in a critical section in the trace takes part up to the end, and so does the mutex
+-- a thread owns a mutex below n, in this critical section, which is in the trace
+pub record OwnsInTrace (course : Course) (sections : CriticalSections) (n t m i : ℕ) : Type 0 where
+  pub above : 1 ≤ m
+  pub below : m < n
+  pub owner : (mutex_in course m).owner ≡ Some t
+  pub section : (mutex_in course m).section ≡ Some i
+  pub kept : Keeps sections i
+
+-- a thread below n awaits a mutex, in this critical section, which is in the trace
+pub record AwaitsInTrace (course : Course) (sections : CriticalSections) (n t m i : ℕ) : Type 0 where
+  pub above : 1 ≤ t
+  pub below : t < n
+  pub awaits : (thread_in course t).awaits ≡ Some m
+  pub section : (thread_in course t).section ≡ Some i
+  pub kept : Keeps sections i
+
+-- who owns a mutex below n in the trace takes part up to the end, and so does the mutex
 abbrev pub OwnersStay : Course → CriticalSections → ℕ → Participants → Type 0
-OwnersStay course sections n participants = (m t i : ℕ) → 1 ≤ m → m < n → (mutex_in course m).owner ≡ Some t →
-    (mutex_in course m).section ≡ Some i → Keeps sections i →
+OwnersStay course sections n participants = (t m i : ℕ) → OwnsInTrace course sections n t m i →
     LastsToEnd participants.threads.items t × LastsToEnd participants.mutexes.items m
 
--- a thread below n that awaits a mutex in a critical section in the trace does, and so does the mutex
+-- a thread below n that awaits a mutex in the trace does, and so does the mutex
 abbrev pub WaitersStay : Course → CriticalSections → ℕ → Participants → Type 0
-WaitersStay course sections n participants = (t m i : ℕ) → 1 ≤ t → t < n → (thread_in course t).awaits ≡ Some m →
-    (thread_in course t).section ≡ Some i → Keeps sections i →
+WaitersStay course sections n participants = (t m i : ℕ) → AwaitsInTrace course sections n t m i →
     LastsToEnd participants.threads.items t × LastsToEnd participants.mutexes.items m
 
 -- who owns or awaits something does, of the threads and mutexes that there are, which have numbers from 1 to 2 ^ 32 - 2
@@ -127,9 +141,39 @@ pub record StayToEnd (course : Course) (sections : CriticalSections) (participan
   pub owners : OwnersStay course sections (min (length participants.mutexes.items) (2 ^ 32 - 1)) participants
   pub waiters : WaitersStay course sections (min (length participants.threads.items) (2 ^ 32 - 1)) participants
 
+-- a thread owns or awaits a mutex in the trace, of the threads and mutexes that there are
+abbrev pub OwnsOrAwaits : Course → CriticalSections → Participants → ℕ → ℕ → Type 0
+OwnsOrAwaits course sections participants t m =
+    (i : ℕ) × (OwnsInTrace course sections (min (length participants.mutexes.items) (2 ^ 32 - 1)) t m i
+    ⊎ AwaitsInTrace course sections (min (length participants.threads.items) (2 ^ 32 - 1)) t m i)
+
+-- a thread takes part up to the record at which it appears so
+pub record EndsAsThread (one : ℕ) (participant : Participant) (by : Appearing) : Type 0 where
+  pub is : by.thread ≡ one
+  pub last : participant.span.last ≡ by.number
+
+-- a mutex does
+pub record EndsAsMutex (one : ℕ) (participant : Participant) (by : Appearing) : Type 0 where
+  pub is : by.mutex ≡ one
+  pub last : participant.span.last ≡ by.number
+
+-- Whoever takes part does so up to the record at which it appears by a fact in the trace that is of this kind; or it does so
+-- up to the end, and owns or awaits something in the trace then, or is owned or awaited.
+pub record EndInTrace (Kind : Appearing → Type 0) (course : Course) (sections : CriticalSections)
+    (participants : Participants) : Type 0 where
+  pub threads : (one : ℕ) (participant : Participant) →
+      slice_index_or participants.threads.items one None ≡ Some participant →
+      ((by : Appearing) × (IsInTrace Kind sections by × EndsAsThread one participant by))
+      ⊎ ((participant.span.last ≡ 2 ^ 64 - 1) × ((m : ℕ) × OwnsOrAwaits course sections participants one m))
+  pub mutexes : (one : ℕ) (participant : Participant) →
+      slice_index_or participants.mutexes.items one None ≡ Some participant →
+      ((by : Appearing) × (IsInTrace Kind sections by × EndsAsMutex one participant by))
+      ⊎ ((participant.span.last ≡ 2 ^ 64 - 1) × ((t : ℕ) × OwnsOrAwaits course sections participants t one))
+
 -- There is a way through all records of a log and all requests that it lacks, such that of each fact on it that is in the
--- trace the thread and the mutex take part then; whoever takes part begins to as it appears by one of these facts; and who
--- owns or awaits something in the trace at the end of the log takes part up to the end.
+-- trace the thread and the mutex take part then; whoever takes part begins to as it appears by one of these facts, and does
+-- so up to the record of such a fact or up to the end; and those do so up to the end who own or await something in the trace
+-- then, and no others.
 pub record TakePartByLog (bytes : List ℕ) (sources : Sources) (sections : CriticalSections) (participants : Participants)
     : Type 0 where
   pub last : Stage
@@ -139,4 +183,5 @@ pub record TakePartByLog (bytes : List ℕ) (sources : Sources) (sections : Crit
   pub added : last.added ≡ length sources.requests.list.items
   pub all : AllTakePart sections (last ∷ before) participants
   pub begin : BeginInTrace (AppearsOn (last ∷ before)) sections participants
+  pub end : EndInTrace (AppearsOn (last ∷ before)) last.course sections participants
   pub stay : StayToEnd last.course sections participants

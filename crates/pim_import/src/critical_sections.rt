@@ -11,10 +11,10 @@ ghost use Rattle.pim_requests.specs.declared.waits.Wait.{Wait};
 
 use crate::left_out::must_stay;
 use crate::seen::Seen;
-use pim_builder::Participants;
 use pim_course::{Sources, Walk};
 use pim_facts::Fact;
 use pim_log::Log;
+use pim_numbers::Participants;
 use std::alloc::{AllocError, Global};
 
 /// Which critical sections are in the trace: those for which or during which a thread waited, and
@@ -30,8 +30,8 @@ impl CriticalSections {
     /// Returns which critical sections of the log are in the trace, and who takes part in it. Which sections these are is
     /// proved: those that the facts of the log must keep, and no others. Of a log with fewer than 2^32 records and requests
     /// it is proved, too, that the thread and the mutex of each fact in the trace take part at its record, that whoever
-    /// takes part begins to by such a fact, with the level or the ceiling that it has then, and that who owns or awaits
-    /// something in the trace at the end takes part up to the end.
+    /// takes part begins to by such a fact, with the level or the ceiling that it has then, and does so up to such a fact
+    /// or to the end, and that those do so to the end who own or await something in the trace then, and no others.
     ///
     /// # Errors
     ///

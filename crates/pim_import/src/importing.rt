@@ -4,10 +4,10 @@ ghost use Rattle.pim_log.specs.Headers.{header_of, end_of};
 ghost use Rattle.pim_log.specs.Logs.{IsLog};
 ghost use Rattle.pim_course.specs.Reading.{Begins};
 ghost use Rattle.pim_course.specs.Requests.{IsInOrder};
-ghost use Rattle.pim_builder.specs.Numbered.{HasRoomFor};
-ghost use Rattle.pim_builder.specs.Faults.{IsContradiction, NamesOneOf, NamesOnly};
+ghost use Rattle.pim_numbers.specs.Numbered.{HasRoomFor};
+ghost use Rattle.pim_numbers.specs.Faults.{IsContradiction, NamesOneOf, NamesOnly};
 ghost use Rattle.pim_findings.specs.Waits.{Moment};
-ghost use Rattle.pim_builder.specs.declared.fault.ImportFault.TheVariants as import;
+ghost use Rattle.pim_numbers.specs.declared.fault.ImportFault.TheVariants as import;
 ghost use Rattle.pim_import.specs.Contradicting.{Contradicts, ContradictsAt, IsUnfit};
 ghost use Rattle.pim_import.specs.Imports.{IsOfLog, IsOfTrace, IsRefused};
 ghost use Rattle.pim_import.specs.Following.{AreAdded, AreOfLog, ArePlaced, FollowsLog, HasAdded, HasFollowed, Knows};
@@ -23,11 +23,12 @@ ghost use Rattle.pim_import.specs.Tallies.{total};
 use crate::critical_sections::CriticalSections;
 use crate::left_out::may_be_left_out;
 use crate::tally::Tally;
-use pim_builder::{Appearance, Context, ImportFault, Now, Numbering, Piece, TraceBuilder};
+use pim_builder::{Appearance, Context, Now, Piece, TraceBuilder};
 use pim_course::{Course, NextOwners, Requests, Sources, Walk};
 use pim_facts::{Fact, Ids, IdsFault};
 use pim_findings::Findings;
 use pim_log::Log;
+use pim_numbers::{ImportFault, Numbering};
 use pim_replay::Priorities;
 use pim_requests::{Wait, requests_of};
 use std::alloc::Global;
@@ -57,7 +58,6 @@ pub struct Built {
 }
 
 /// What came of a log.
-#[derive(Drop)]
 pub struct Imported {
     pub built: Built,
     /// The threads and mutexes of the log.
@@ -66,6 +66,18 @@ pub struct Imported {
     pub numbering: Numbering,
     /// Their priorities.
     pub priorities: Priorities,
+}
+
+// Each place that drops it calls this one function, where a derived drop would be a call for each part there.
+impl Drop for Imported {
+    fn drop(self) {
+        let Imported {
+            built: _,
+            sources: _,
+            numbering: _,
+            priorities: _,
+        } = self;
+    }
 }
 
 /// Makes a trace of a log, and finds what it shows. The waits are those that the kernel's events

@@ -1,17 +1,18 @@
 //! Who takes part in the trace, as far as its records were looked at.
 ghost use Rattle.std.specs.Prelude.{◌≡◌, ◌≢◌, ◌⊎◌, ◌↔◌, ◌<◌, ℕ, length, max, min, IfOk, Some, None, slice_index_or};
-ghost use Rattle.pim_builder.specs.declared.participants.Participant.{Participant};
+ghost use Rattle.pim_numbers.specs.declared.participants.Participant.{Participant};
 ghost use Rattle.pim_facts.specs.Shown.{shown_in};
 ghost use Rattle.pim_import.specs.LeftOut.{Keeps};
-ghost use Rattle.pim_import.specs.Seeing.{AreSeen, BeganSo, BeginOrBefore, HasPlaces, HasSizes, IsEmpty, IsHeldAt};
-ghost use Rattle.pim_import.specs.Seeing.{IsNoted, LastOn, Sees, StillBegin, StillTakePart};
-ghost use Rattle.pim_import.specs.TakingPart.{LastsToEnd, StayToEnd, TakesPartAt, appearing};
+ghost use Rattle.pim_import.specs.Seeing.{AreIn, AreSeen, BeganSo, BeginOrBefore, EndedSo, EndOrBefore, EndOrLast};
+ghost use Rattle.pim_import.specs.Seeing.{EndOrStay, HasPlaces, HasSizes, IsEmpty, IsHeldAt, IsNoted, LastOn, Sees};
+ghost use Rattle.pim_import.specs.Seeing.{StillBegin, StillTakePart};
+ghost use Rattle.pim_import.specs.TakingPart.{LastsToEnd, OwnsOrAwaits, StayToEnd, TakesPartAt, appearing};
 ghost use Rattle.pim_import.specs.declared.seen.Appearing.{Appearing};
 
 use crate::critical_sections::CriticalSections;
-use pim_builder::{Participant, Participants, Span};
 use pim_course::{Course, Sources, Walk};
 use pim_facts::{Fact, What};
+use pim_numbers::{Participant, Participants, Span};
 use std::alloc::{AllocError, Global};
 
 /// What a record shows of a thread and a mutex.
@@ -126,6 +127,7 @@ impl Seen {
     /// the log do so to the end, and the mutexes too.
     pub fn end(self, course: &Course, sections: &CriticalSections) -> Participants
         ensures last { LastOn self.participants result }
+        ensures end { EndOrStay self.participants result (OwnsOrAwaits course.now sections.now result) }
         ensures stay { StayToEnd course.now sections.now result }
     {
         let mut participants = self.participants;
@@ -140,6 +142,7 @@ impl Seen {
         ensures still { (one : Appearing) → IsNoted self.old one → IsNoted self.new one }
         ensures noted { (n k : ℕ) → HasSizes n k self.old → HasPlaces n k now.now → IsNoted self.new now.now }
         ensures begin { BeginOrBefore self.old.participants self.new.participants (λ by. by ≡ now.now) }
+        ensures end { EndOrBefore self.old.participants self.new.participants (λ by. by ≡ now.now) }
     {
         note(
             &mut self.participants.threads,
@@ -176,6 +179,7 @@ impl Appearing {
 /// too.
 fn stay(participants: &mut Participants, course: &Course, sections: &CriticalSections)
     ensures last { LastOn participants.old participants.new }
+    ensures end { EndOrStay participants.old participants.new (OwnsOrAwaits course.now sections.now participants.new) }
     ensures stay { StayToEnd course.now sections.now participants.new }
 {
     let mutexes = participants.mutexes.len().min(u32::MAX as usize) as u32;
@@ -199,6 +203,7 @@ fn stay_in(
     mutex: Option<u32>,
 )
     ensures last { LastOn participants.old participants.new }
+    ensures end { EndOrStay participants.old participants.new (AreIn sections.now section thread mutex) }
     ensures stay { (s t m : ℕ) → section ≡ Some s → thread ≡ Some t → mutex ≡ Some m → Keeps sections.now s →
         LastsToEnd participants.new.threads.items t × LastsToEnd participants.new.mutexes.items m }
 {
@@ -215,6 +220,7 @@ fn last_to_the_end(participants: &mut Vec<Option<Participant>>, one: u32)
     ensures size { length participants.new.items ≡ length participants.old.items }
     ensures still { StillTakePart participants.old.items participants.new.items }
     ensures begin { StillBegin participants.old.items participants.new.items }
+    ensures end { EndOrLast participants.old.items participants.new.items (λ other. other ≡ one) }
     ensures lasts { LastsToEnd participants.new.items one }
     ensures stay { (other : ℕ) → LastsToEnd participants.old.items other → LastsToEnd participants.new.items other }
 {
@@ -233,6 +239,9 @@ fn note(participants: &mut Vec<Option<Participant>>, place: u32, number: u64, le
         slice_index_or participants.new.items one None ≡ Some participant →
         BeganSo participants.old.items one participant
         ⊎ ((one ≡ place) × ((participant.span.first ≡ number) × (participant.level ≡ level))) }
+    ensures end { (one : ℕ) (participant : Participant) →
+        slice_index_or participants.new.items one None ≡ Some participant →
+        EndedSo participants.old.items one participant ⊎ ((one ≡ place) × (participant.span.last ≡ number)) }
 {
     if place as usize >= participants.len() {
         return;

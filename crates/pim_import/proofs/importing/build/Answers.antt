@@ -2,7 +2,7 @@ use Rattle.std.proofs.Common.{◌∙◌, ap, refl, rules, sym}
 use Rattle.std.proofs.lemmas.Result.{err_from_is_err_and}
 use Rattle.pim_log.specs.Headers.{end_of}
 use Rattle.pim_findings.specs.Orders.{nested_of}
-use Rattle.pim_builder.specs.declared.fault.ImportFault.TheVariants.{Memory}
+use Rattle.pim_numbers.specs.declared.fault.ImportFault.TheVariants.{Memory}
 use Rattle.pim_import.proofs.Contradicting.{names-none-not}
 use Rattle.pim_import.proofs.Following.{follows-log}
 use Rattle.pim_import.proofs.importing.build.Goals as goal

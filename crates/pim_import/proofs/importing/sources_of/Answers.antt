@@ -6,7 +6,9 @@ returns-clause-of_log c is =
     let names = c.in-Ok.ensures.named is in
     record {
       covers = covers;
+      addresses = c.in-Ok.ensures.addresses is;
       few = c.in-Ok.ensures.few;
+      levels = c.in-Ok.ensures.levels is;
       ended = c.in-Ok.ensures.ended is;
       releases = c.in_ok-next_owners.ensures.releases covers names;
       asked = c.in_ok-next_owners.ensures.requests covers names;

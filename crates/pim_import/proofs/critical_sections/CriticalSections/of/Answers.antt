@@ -146,7 +146,7 @@ returns-clause-participants c waits log of placed few =
     seen-log c.args.log.now c.args.sources.now c.args.is_all _ c.loop-number.walk c.loop-number.sections c.loop-number.seen _
     (c.end-end.ensures ∙ ap end_of c.header.ensures) placed
     (subst (λ n. AreAdded requests n c.loop-number.walk.added) at (c.loop-number.invariant.added placed))
-    c.end-participants.ensures.last c.end-participants.ensures.stay
+    c.end-participants.ensures.last c.end-participants.ensures.end c.end-participants.ensures.stay
     (subst (λ n. HasSeen c.args.log.now c.args.sources.now c.args.is_all n c.loop-number.walk c.loop-number.sections
     c.loop-number.seen) at
     (c.loop-number.invariant.seen waits (record { log = log; of = of; few = few; placed = placed })))

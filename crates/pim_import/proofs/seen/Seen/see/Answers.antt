@@ -27,6 +27,7 @@ returns-after-grant_of c n k sizes same =
             still = w.note.ensures.still;
             noted = w.note.ensures.noted;
             begin = w.note.ensures.begin;
+            end = w.note.ensures.end;
           })
           (subst (λ seen. Notes c.args.now.now seen c.note-then-has.new.self) w.self-is (record {
             grants = noted.grants;
@@ -34,6 +35,7 @@ returns-after-grant_of c n k sizes same =
             still = noted.still;
             noted = noted.noted;
             begin = noted.begin;
+            end = noted.end;
           }))
       | in_default w ↦
           let noted = c.note-then-has.ensures in
@@ -45,6 +47,7 @@ returns-after-grant_of c n k sizes same =
             still = noted.still;
             noted = noted.noted;
             begin = noted.begin;
+            end = noted.end;
           }))
           (λ grant held at. w.in_default.not-Some grant ((c.grant_of.ensures grant).1 (held, at)))
     ]
