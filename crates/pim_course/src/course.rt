@@ -20,7 +20,6 @@ use pim_log::{Event, Mutex, Priority, Record};
 use std::alloc::{AllocError, Global};
 
 /// What is known of a log before its course is followed.
-#[derive(Drop)]
 pub struct Sources {
     /// Whom each record is about.
     pub ids: Ids,
@@ -28,6 +27,17 @@ pub struct Sources {
     pub next_owners: NextOwners,
     /// The requests that the log lacks.
     pub requests: Requests,
+}
+
+// Each place that drops it calls this one function, where a derived drop would be a call for each part there.
+impl Drop for Sources {
+    fn drop(self) {
+        let Sources {
+            ids: _,
+            next_owners: _,
+            requests: _,
+        } = self;
+    }
 }
 
 /// A mutex in the course of a program. By default it is free.

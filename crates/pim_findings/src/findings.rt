@@ -32,7 +32,6 @@ use pim_orders::{Opposite, Orders};
 use std::alloc::{AllocError, Global};
 
 /// What is found in a recording.
-#[derive(Drop)]
 pub struct Findings {
     pub waits: FoundWaits,
     /// By mutex, as in [`Ids`](pim_facts::Ids).
@@ -46,6 +45,22 @@ pub struct Findings {
     blocking: Blocking,
     orders: Orders,
     waiting: Waiting,
+}
+
+// Each place that drops it calls this one function, where a derived drop would be a call for each part there.
+impl Drop for Findings {
+    fn drop(self) {
+        let Findings {
+            waits: _,
+            mutexes: _,
+            deadlocks: _,
+            bounds: _,
+            opposites: _,
+            blocking: _,
+            orders: _,
+            waiting: _,
+        } = self;
+    }
 }
 
 impl Findings {

@@ -204,31 +204,50 @@ fn option<'a>(alloc: Global, name: &'a str, value: &'a str, help: &'a str) -> Ar
 
 /// Returns the program's command line.
 fn command<'a>(alloc: Global) -> Result<Command<'a>, AllocError> {
-    let log = Arg::new(alloc, "log")
-        .value_name("LOG")
-        .help("What pim-record wrote")
-        .action(ArgAction::Set)
-        .required_unless_present("kernel")?
-        .required_unless_present("facts")?;
-    let all = "Write all ownerships, also those for which nobody waited";
-    let json = "Write the findings as JSON";
-    let kernel = "The kernel's events, in place of LOG.kernel. Without LOG they are read alone";
-    let tolerance = "How long a thread may run at another priority: 50us unless set";
-    let facts = "Read facts as text, in place of a log. - is standard input";
-    let facts = option(alloc, "facts", "FILE", facts)
-        .conflicts_with("log")?
-        .conflicts_with("kernel")?
-        .conflicts_with("tolerance")?;
+    let arguments = all_arguments(alloc)?;
     Command::new(alloc, PROGRAM)
         .about(
             "Make a trace of a recorded program, and say who waited for whom, at which priorities",
         )
         .version("0.2.0")
         .after_help(MORE)
-        .arg(log)?
-        .arg(flag(alloc, "all", all))?
-        .arg(flag(alloc, "json", json))?
-        .arg(option(alloc, "kernel", "FILE", kernel))?
-        .arg(option(alloc, "tolerance", "TIME", tolerance))?
-        .arg(facts)
+        .args(arguments)
+}
+
+/// Returns the arguments of the command line, in the order of `--help`.
+fn all_arguments<'a>(alloc: Global) -> Result<Vec<Arg<'a>>, AllocError> {
+    let all = "Write all ownerships, also those for which nobody waited";
+    let json = "Write the findings as JSON";
+    let kernel = "The kernel's events, in place of LOG.kernel. Without LOG they are read alone";
+    let tolerance = "How long a thread may run at another priority: 50us unless set";
+    let log = log(alloc)?;
+    let facts = facts(alloc)?;
+    let arguments = vec![in alloc;
+        log,
+        flag(alloc, "all", all),
+        flag(alloc, "json", json),
+        option(alloc, "kernel", "FILE", kernel),
+        option(alloc, "tolerance", "TIME", tolerance),
+        facts,
+    ]?;
+    Ok(arguments)
+}
+
+/// Returns the argument that names a log.
+fn log<'a>(alloc: Global) -> Result<Arg<'a>, AllocError> {
+    Arg::new(alloc, "log")
+        .value_name("LOG")
+        .help("What pim-record wrote")
+        .action(ArgAction::Set)
+        .required_unless_present("kernel")?
+        .required_unless_present("facts")
+}
+
+/// Returns the option that names a text of facts.
+fn facts<'a>(alloc: Global) -> Result<Arg<'a>, AllocError> {
+    let help = "Read facts as text, in place of a log. - is standard input";
+    option(alloc, "facts", "FILE", help)
+        .conflicts_with("log")?
+        .conflicts_with("kernel")?
+        .conflicts_with("tolerance")
 }

@@ -18,13 +18,59 @@ use std::alloc::{AllocError, Global};
 const FUTEXES_SINCE: u64 = 2;
 
 /// The kernel's events.
-#[derive(Drop)]
 pub struct Events {
     /// The file's bytes.
     bytes: Vec<u8>,
     recording: Recording,
     /// What each task did by them.
     tracks: Tracks,
+}
+
+// Each place that drops it calls this one function, where a derived drop would be a call for each part there.
+impl Drop for Events {
+    fn drop(self) {
+        let Events {
+            bytes: _,
+            recording: _,
+            tracks: _,
+        } = self;
+    }
+}
+
+impl Events {
+    /// Compares these with the trace.
+    fn compared(
+        self,
+        alloc: Global,
+        arguments: &Arguments,
+        log: &Log,
+        imported: &Imported,
+    ) -> Result<Kernel, AllocError> {
+        let compared = compare(alloc, log, imported, &self.tracks, arguments.tolerance)?;
+        let waits = awaited_in(alloc, imported)?;
+        let meanwhile = ran_meanwhile(alloc, &self.recording, &self.tracks, &waits)?;
+        let futexes = futexes_in(alloc, log, imported, &self.recording)?;
+        let Events {
+            bytes,
+            recording,
+            tracks: _,
+        } = self;
+        let Recording {
+            tasks,
+            lost,
+            is_whole,
+            ..
+        } = recording;
+        Ok(Kernel {
+            bytes,
+            compared,
+            lost,
+            is_whole,
+            tasks,
+            meanwhile,
+            futexes,
+        })
+    }
 }
 
 /// Reads the kernel's events, if there are any.
@@ -79,35 +125,10 @@ pub fn kernel_of(
     imported: &Imported,
     events: Option<Events>,
 ) -> Result<Option<Kernel>, AllocError> {
-    let Some(
-        Events {
-            bytes,
-            recording,
-            tracks,
-        },
-    ) = events
-    else {
-        return Ok(None);
-    };
-    let compared = compare(alloc, log, imported, &tracks, arguments.tolerance)?;
-    let waits = awaited_in(alloc, imported)?;
-    let meanwhile = ran_meanwhile(alloc, &recording, &tracks, &waits)?;
-    let futexes = futexes_in(alloc, log, imported, &recording)?;
-    let Recording {
-        tasks,
-        lost,
-        is_whole,
-        ..
-    } = recording;
-    Ok(Some(Kernel {
-        bytes,
-        compared,
-        lost,
-        is_whole,
-        tasks,
-        meanwhile,
-        futexes,
-    }))
+    match events {
+        Some(events) => Ok(Some(events.compared(alloc, arguments, log, imported)?)),
+        None => Ok(None),
+    }
 }
 
 /// Returns the waits for futexes that the log doesn't have, the longest first. `None` of events that have none.

@@ -8,7 +8,6 @@ use pim_out::Out;
 use pim_waits::{Findings, RanMeanwhile};
 
 /// What the kernel's events show.
-#[derive(Drop)]
 pub struct Kernel {
     /// The file's bytes.
     pub bytes: Vec<u8>,
@@ -25,6 +24,21 @@ pub struct Kernel {
     pub futexes: Option<Vec<FutexWait>>,
 }
 
+// Each place that drops it calls this one function, where a derived drop would be a call for each part there.
+impl Drop for Kernel {
+    fn drop(self) {
+        let Kernel {
+            bytes: _,
+            compared: _,
+            lost: _,
+            is_whole: _,
+            tasks: _,
+            meanwhile: _,
+            futexes: _,
+        } = self;
+    }
+}
+
 impl Kernel {
     /// Returns who ran in the place of the owner during one of the longest waits, the one that ran longest first.
     pub fn ran_meanwhile(&self, wait: usize) -> &[RanMeanwhile] {
@@ -36,12 +50,22 @@ impl Kernel {
 }
 
 /// The kernel's events of a program that has no log, and what is found in them.
-#[derive(Drop)]
 pub struct Alone {
     pub recording: Recording,
     pub findings: Findings,
     /// The waits for futexes, the longest first. `None` of events that have none.
     pub futexes: Option<FutexWaits>,
+}
+
+// Each place that drops it calls this one function, where a derived drop would be a call for each part there.
+impl Drop for Alone {
+    fn drop(self) {
+        let Alone {
+            recording: _,
+            findings: _,
+            futexes: _,
+        } = self;
+    }
 }
 
 /// Writes why a thread should have its priority, as a report of `pim` does.

@@ -42,7 +42,6 @@ enum Pending {
 }
 
 /// What the log says of its threads, mutexes and files.
-#[derive(Drop)]
 pub struct Labels {
     /// By thread. Linux has names of at most 15 bytes.
     names: Vec<Text>,
@@ -59,6 +58,22 @@ pub struct Labels {
     texts: PlaceTexts,
     /// Who called the locks that found their mutexes owned.
     stacks: Stacks,
+}
+
+// Each place that drops it calls this one function, where a derived drop would be a call for each part there.
+impl Drop for Labels {
+    fn drop(self) {
+        let Labels {
+            names: _,
+            places: _,
+            modules: _,
+            children: _,
+            pending: _,
+            given: _,
+            texts: _,
+            stacks: _,
+        } = self;
+    }
 }
 
 /// The names that a text of facts gives. A name `-` is no name.

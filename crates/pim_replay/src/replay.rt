@@ -36,7 +36,6 @@ use std::marker::Model;
 ///
 /// In contracts it is the state at the start and now, the steps between, what each task waits for in the program, and the
 /// number of the next wait. The type keeps that the steps, with their replies, are a run of the model.
-#[derive(Drop)]
 pub struct Replay {
     bases: Vec<Prio>,
     protocols: Vec<Protocol>,
@@ -50,6 +49,22 @@ pub struct Replay {
     waiting: usize,
     /// How many tasks are in a queue.
     queued: usize,
+}
+
+// Each place that drops it calls this one function, where a derived drop would be a call for each part there.
+impl Drop for Replay {
+    fn drop(self) {
+        let Replay {
+            bases: _,
+            protocols: _,
+            manager: _,
+            entries: _,
+            waits: _,
+            next: _,
+            waiting: _,
+            queued: _,
+        } = self;
+    }
 }
 
 impl Model for Replay {
