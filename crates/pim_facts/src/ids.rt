@@ -16,10 +16,10 @@ ghost use Rattle.pim_facts.specs.Placing.{FindsBelow, FindsByAddress, IsPlaced, 
 use crate::family::{Family, ceiling_in, family_in};
 use crate::fault::IdsFault;
 use crate::level::{MAX_LEVEL, level_of};
+use crate::places::Places;
 use crate::tasks::{Named, Tasks};
 use pim_log::{Event, Log, Mutex, Priority, Record, ThreadKey};
 use std::alloc::{AllocError, Global};
-use std::collections::HashMap;
 
 /// How many threads a log may have at most.
 pub const MAX_THREADS: u32 = 1 << 22;
@@ -66,29 +66,6 @@ pub struct Ids {
     pub ended: u64,
 }
 
-/// What is known of addresses while a log is read.
-#[derive(Drop)]
-struct Places {
-    /// By process and address. Those that processes share are without a process.
-    mutexes: HashMap<(Option<u32>, u64), u32>,
-    /// By process and address.
-    threads: HashMap<(u32, u64), u32>,
-    /// By [`place_of`] an address the mutex that was found or began there last: most records find theirs here, without the
-    /// search of the map.
-    found: Vec<Option<Found>>,
-}
-
-/// The mutex that a record of this process means by an address.
-#[derive(Clone, Copy)]
-struct Found {
-    process: u32,
-    mutex: u32,
-    address: u64,
-}
-
-/// How many mutexes are kept beside the map: a prime number, so that those at equal distances are at different places.
-const FOUND: u64 = 1021;
-
 const NO_THREAD: LoggedThread = LoggedThread {
     process: None,
     task: None,
@@ -115,11 +92,7 @@ impl Ids {
         ensures addresses { IsLog log.now → IfOk result (λ found. FindsByAddress found.0 log.now) }
     {
         let mut ids = Ids::new(alloc, log)?;
-        let mut places = Places {
-            mutexes: HashMap::new(alloc),
-            threads: HashMap::new(alloc),
-            found: vec![in alloc; None; FOUND as usize]?,
-        };
+        let mut places = Places::new(alloc)?;
         let mut tasks = Tasks::new(alloc, log)?;
         for number in 1..log.header().end() {
             ids.read_record(&mut places, &mut tasks, log, number)?;
@@ -240,7 +213,7 @@ impl Ids {
         self.read_thread(record)?;
         match record.event.mutex() {
             Some(mutex) => Ok(Some(self.read_mutex(places, record, &mutex)?)),
-            None => self.read_other(places, tasks, record),
+            None => Ok(self.read_other(tasks, record)),
         }
     }
 
@@ -274,34 +247,29 @@ impl Ids {
     }
 
     /// Learns what a record says that isn't of a mutex, and returns the thread that it is about, if it is about one.
-    fn read_other(
-        &mut self,
-        places: &mut Places,
-        tasks: &Tasks,
-        record: &Record,
-    ) -> Result<Option<u32>, IdsFault>
-        ensures fault { IfErr result (NamesOnly «record».now.number «record».now.thread) }
+    fn read_other(&mut self, tasks: &Tasks, record: &Record) -> Option<u32>
         ensures grown { Grows self.old self.new }
-        ensures thread { HasThread self.old «record».now.thread → IfOk result (λ id. IfSome id (HasThread self.new)) }
-        ensures levels { IfOk result (λ _. AddsLevel
-            (option_map (λ priority. level_by priority 1) (priority_said «record».now.event)) self.old self.new) }
+        ensures thread { HasThread self.old «record».now.thread → IfSome result (HasThread self.new) }
+        ensures levels { AddsLevel
+            (option_map (λ priority. level_by priority 1) (priority_said «record».now.event)) self.old self.new }
         ensures mutexes { self.new.mutexes ≡ self.old.mutexes }
     {
         match record.event {
-            Event::Thread { pthread, priority } => {
-                self.begin_thread(places, record, pthread, priority)?;
-                Ok(Some(record.thread))
+            Event::Thread { priority, .. } => {
+                self.keep_level(level_of(priority, 1));
+                self.begin_level(record.thread, level_of(priority, 0));
+                Some(record.thread)
             }
-            Event::Name { pthread } => Ok(self.known(places.thread(record.process, pthread))),
+            Event::Name { pthread } => self.known(tasks.thread_at(record.process, pthread)),
             Event::Priority { of, priority } => {
                 self.keep_level(level_of(priority, 1));
                 let thread = match of {
                     ThreadKey::Task(task) => tasks.thread(task),
-                    ThreadKey::Pthread(pthread) => places.thread(record.process, pthread),
+                    ThreadKey::Pthread(pthread) => tasks.thread_at(record.process, pthread),
                 };
-                Ok(self.known(thread))
+                self.known(thread)
             }
-            _ => Ok(None),
+            _ => None,
         }
     }
 
@@ -360,29 +328,6 @@ impl Ids {
                 self.keep_level(0);
             }
         }
-    }
-
-    /// Keeps where a thread is found that begins.
-    fn begin_thread(
-        &mut self,
-        places: &mut Places,
-        record: &Record,
-        pthread: u64,
-        priority: Priority,
-    ) -> Result<(), IdsFault>
-        ensures fault { IfErr result (NamesOnly «record».now.number «record».now.thread) }
-        ensures grown { Grows self.old self.new }
-        ensures levels { IfOk result (λ _. AddsLevel (Some (level_by priority 1)) self.old self.new) }
-        ensures mutexes { self.new.mutexes ≡ self.old.mutexes }
-    {
-        self.keep_level(level_of(priority, 1));
-        self.begin_level(record.thread, level_of(priority, 0));
-        put(
-            &mut places.threads,
-            (record.process, pthread),
-            record.thread,
-        )?;
-        Ok(())
     }
 
     fn begin_level(&mut self, thread: u32, level: u8)
@@ -496,68 +441,6 @@ impl Ids {
     }
 }
 
-/// Returns the place beside the map of the mutexes at an address.
-fn place_of(address: u64) -> usize {
-    (address / 8 % FOUND) as usize
-}
-
-impl Places {
-    /// Returns the mutex at an address of this process, if the log knows it.
-    fn mutex(&mut self, process: u32, address: u64) -> Option<u32> {
-        match self.found.get(place_of(address)) {
-            Some(Some(found)) if found.address == address && found.process == process => {
-                Some(found.mutex)
-            }
-            _ => {
-                let mutex = self.search(process, address)?;
-                self.keep_found(process, address, mutex);
-                Some(mutex)
-            }
-        }
-    }
-
-    /// Returns the mutex at an address of this process by the map.
-    fn search(&self, process: u32, address: u64) -> Option<u32> {
-        match self.mutexes.get(&(Some(process), address)) {
-            Some(found) => Some(*found),
-            None => self.mutexes.get(&(None, address)).copied(),
-        }
-    }
-
-    /// Keeps a mutex beside the map, in place of what was found at its address.
-    fn keep_found(&mut self, process: u32, address: u64, mutex: u32) {
-        let place = place_of(address);
-        if place < self.found.len() {
-            self.found[place] = Some(Found {
-                process,
-                mutex,
-                address,
-            });
-        }
-    }
-
-    /// Returns the thread at an address of this process, if the log knows it.
-    fn thread(&self, process: u32, pthread: u64) -> Option<u32> {
-        self.threads.get(&(process, pthread)).copied()
-    }
-
-    /// Keeps where a mutex is found. One that processes share takes the place of the one before it
-    /// that wasn't shared.
-    fn begin_mutex(
-        &mut self,
-        process: Option<u32>,
-        record: &Record,
-        address: u64,
-        mutex: u32,
-    ) -> Result<(), AllocError> {
-        if process.is_none() {
-            let _before = self.mutexes.remove(&(Some(record.process), address));
-        }
-        self.keep_found(record.process, address, mutex);
-        put(&mut self.mutexes, (process, address), mutex)
-    }
-}
-
 /// Returns the process of the mutex of a record: none of one that processes share.
 fn process_of(record: &Record, mutex: &Mutex) -> Option<u32>
     ensures { IfSome result (λ process. process ≡ «record».now.process) }
@@ -572,17 +455,5 @@ fn is_recursive(mutex: &Mutex) -> bool {
     match mutex.kind {
         Some(kind) => kind.is_recursive,
         None => false,
-    }
-}
-
-/// Puts a value at a key of a map.
-fn put<K: Eq + std::hash::Hash + Drop, V: Drop>(
-    map: &mut HashMap<K, V>,
-    key: K,
-    value: V,
-) -> Result<(), AllocError> {
-    match map.insert(key, value) {
-        Ok(_) => Ok(()),
-        Err(_) => Err(AllocError),
     }
 }

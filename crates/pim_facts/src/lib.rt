@@ -19,6 +19,7 @@ mod fault;
 mod ids;
 mod level;
 pub mod lists;
+mod places;
 mod tasks;
 
 pub use fact::{Fact, LeftOut, What};

@@ -1,4 +1,4 @@
-//! Which thread has a number of the kernel.
+//! Which thread has a number of the kernel, or is at an address.
 ghost use Rattle.std.specs.Prelude.{◌≡◌, ◌==◌, ◌&&◌, ℕ, IfOk, Some, if◌then◌else◌, slice_set, unwrap_or};
 ghost use Rattle.std.specs.Option.{option_map_or};
 ghost use Rattle.pim_facts.specs.Naming.{HasNamed, begun, is_begin, named_task};
@@ -15,11 +15,13 @@ pub struct Named {
     pub threads: Vec<u32>,
 }
 
-/// Which thread has each number of the kernel while a log is read, and which its requests name.
+/// Which thread has each number of the kernel and is at each address while a log is read, and which its requests name.
 #[derive(Drop)]
 pub(crate) struct Tasks {
     /// By the kernel's number the last thread that began with it.
     threads: HashMap<u32, u32>,
+    /// By the kernel's number of a process and an address, the pthread_t, the last thread that began there.
+    at: HashMap<(u32, u64), u32>,
     named: Vec<u32>,
 }
 
@@ -34,6 +36,7 @@ impl Tasks {
     {
         Ok(Tasks {
             threads: HashMap::new(alloc),
+            at: HashMap::new(alloc),
             named: vec![in alloc; 0; log.header().end() as usize]?,
         })
     }
@@ -43,6 +46,11 @@ impl Tasks {
         ensures { result ≡ begun self.now task }
     {
         self.threads.get(&task).copied()
+    }
+
+    /// Returns the last thread that began in this process with this pthread_t.
+    pub fn thread_at(&self, process: u32, pthread: u64) -> Option<u32> {
+        self.at.get(&(process, pthread)).copied()
     }
 
     /// Learns from a record which thread begins, and keeps which one a REQUEST names.
@@ -58,8 +66,9 @@ impl Tasks {
             (named_task «record».now.event) self.old.named.items) }
     {
         match record.event {
-            Event::Thread { .. } => {
+            Event::Thread { pthread, .. } => {
                 self.threads.insert(record.task, record.thread)?;
+                self.at.insert((record.process, pthread), record.thread)?;
             }
             Event::Request {
                 owner: Some(task),
@@ -84,8 +93,9 @@ impl Tasks {
     pub fn named(self) -> Named
         ensures { result.threads.items ≡ self.named.items }
     {
-        let Tasks { threads, named } = self;
+        let Tasks { threads, at, named } = self;
         drop(threads);
+        drop(at);
         Named { threads: named }
     }
 }
