@@ -165,7 +165,7 @@ less-nothing : (h k : ℕ) → k ≡ 0 → h - k ≡ h
 less-nothing h k e = omega (arith, e)
 
 -- the thread of a record of a log is above 0
-thread-above : (bytes : List ℕ) (s n : ℕ) → IsLog bytes → IsNumbered bytes s n → 0 < thread_in bytes s
+pub thread-above : (bytes : List ℕ) (s n : ℕ) → IsLog bytes → IsNumbered bytes s n → 0 < thread_in bytes s
 unfolding slot_fault
 thread-above bytes s n log num =
     let h : ℕ = head_of s in

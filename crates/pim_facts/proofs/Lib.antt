@@ -4,3 +4,4 @@ pub mod Ended
 pub mod Naming
 pub mod Giving
 pub mod Placing
+pub mod Meaning

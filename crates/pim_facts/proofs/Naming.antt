@@ -14,7 +14,7 @@ use Rattle.pim_log.specs.declared.fields.Fields.{Fields}
 use Rattle.pim_log.specs.declared.record.Record.{Record}
 use Rattle.pim_facts.specs.Covering.{CoversBelow, HasThoseOf}
 use Rattle.pim_facts.specs.Levels.{id_in, id_of}
-use Rattle.pim_facts.specs.Naming.{AreBelow, HasNamed, IsAt, IsNamed, Names, begun, is_begin, last_begun, named_task}
+use Rattle.pim_facts.specs.Naming.{AreBelow, HasNamed, IsAt, IsNamed, Names, begun, begun_at, is_begin, is_begin_at, last_begun, named_task}
 use Rattle.pim_facts.specs.declared.ids.Ids.{Ids}
 use Rattle.pim_facts.specs.declared.tasks.Tasks.{Tasks}
 use Rattle.pim_facts.proofs.Covered.{not-zero, of_number, same-slot}
@@ -75,12 +75,14 @@ last-there bytes ids end n (r ∷ rs) task t covers le are e =
 
 -- no record has the number 0
 pub begin : (bytes : List ℕ) (tasks : Tasks) → length tasks.named.items ≡ end_of (header_of bytes) →
-    ((task : ℕ) → begun tasks task ≡ None) → HasNamed bytes 1 tasks
-begin bytes tasks room none = record {
+    ((task : ℕ) → begun tasks task ≡ None) → ((process pthread : ℕ) → begun_at tasks process pthread ≡ None) →
+    HasNamed bytes 1 tasks
+begin bytes tasks room none none_at = record {
   room = room;
   before = [];
   are = λ k slot from lt numbered. let above : 0 < k = numbered.above in omega (arith, lt, above);
   last = none;
+  last_at = none_at;
   names = λ slot number r lt numbered is. let above : 0 < number = numbered.above in absurd (omega (arith, lt, above));
 }
 
@@ -108,6 +110,7 @@ lacks bytes n tasks none has = record {
   before = has.before;
   are = below-lacks bytes n has.before none has.are;
   last = has.last;
+  last_at = has.last_at;
   names = λ slot number r lt numbered is. elim (cases_lt number n) [
     | inl below ↦ has.names slot number r below numbered is
     | inr ge ↦
@@ -160,9 +163,11 @@ last-here bytes n tasks named (Some task) has lt above put =
 pub reads : (bytes : List ℕ) (n : ℕ) (ids : Ids) (old new : Tasks) (r : Record) → IsLog bytes →
     ((slot : ℕ) × (IsNumbered bytes slot n × IsRecord bytes slot r)) → CoversBelow n ids bytes →
     ((task : ℕ) → begun new task ≡ cond (is_begin r.event && r.task == task) (Some r.thread) (begun old task)) →
+    ((process pthread : ℕ) → begun_at new process pthread ≡
+    cond (is_begin_at pthread r.event && r.process == process) (Some r.thread) (begun_at old process pthread)) →
     new.named.items ≡ put_named old.named.items r.number (begun old) (named_task r.event) → HasNamed bytes n old →
     HasNamed bytes (n + 1) new
-reads bytes n ids old new r log found covers begins put has =
+reads bytes n ids old new r log found covers begins begins_at put has =
     let s : ℕ = found.0 in
     let both : IsNumbered bytes s n × IsRecord bytes s r = found.1 in
     let num : IsNumbered bytes s n = both.0 in
@@ -183,6 +188,8 @@ reads bytes n ids old new r log found covers begins put has =
         subst (λ k. AreBelow bytes k has.before) (sym number-is) has.are,
       );
       last = λ task. begins task ∙ begun-too task (is_begin r.event && r.task == task);
+      last_at = λ process pthread. begins_at process pthread
+          ∙ begun-at-too process pthread (is_begin_at pthread r.event && r.process == process);
       names = λ slot number q lt numbered is. elim (cases_lt number n) [
         | inl below ↦
             let other : number ≢ n = λ e. omega (arith, e, below) in
@@ -209,6 +216,12 @@ reads bytes n ids old new r log found covers begins put has =
         option_map (λ q. q.thread) (cond b (Some r) (find (λ q. is_begin q.event && q.task == task) has.before))
     begun-too task true = refl
     begun-too task false = has.last task
+
+    begun-at-too : (process pthread : ℕ) (b : Bool) → cond b (Some r.thread) (begun_at old process pthread) ≡
+        option_map (λ q. q.thread)
+        (cond b (Some r) (find (λ q. is_begin_at pthread q.event && q.process == process) has.before))
+    begun-at-too process pthread true = refl
+    begun-at-too process pthread false = has.last_at process pthread
 
 -- behind the last record
 pub named : (bytes : List ℕ) (n e : ℕ) (tasks : Tasks) (threads : List ℕ) → HasNamed bytes n tasks →

@@ -6,3 +6,4 @@ pub mod Ending
 pub mod Naming
 pub mod Giving
 pub mod Placing
+pub mod Meaning

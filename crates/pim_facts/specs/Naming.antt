@@ -1,4 +1,4 @@
--- Which thread a REQUEST names: the last one that began with its task before.
+-- Which thread a REQUEST names: the last one that began with its task before. And which one began last with a pthread_t.
 --
 -- Each list of records here has the latest one first.
 use Rattle.std.specs.Prelude.{◌≡◌, ◌+◌, ◌<◌, ◌≤◌, ℕ, ◌==◌, Bool, true, false, ◌&&◌, List, [], ◌∷◌}
@@ -38,6 +38,16 @@ is_begin _ = false
 abbrev pub last_begun : ℕ → List Record → Option ℕ
 last_begun task before = option_map (λ r. r.thread) (find (λ r. is_begin r.event && r.task == task) before)
 
+-- a thread begins with this pthread_t
+abbrev pub is_begin_at : ℕ → Event → Bool
+is_begin_at pthread (event.Thread own _) = own == pthread
+is_begin_at pthread _ = false
+
+-- the last thread that began in a process with a pthread_t
+abbrev pub last_begun_at : ℕ → ℕ → List Record → Option ℕ
+last_begun_at process pthread before =
+    option_map (λ r. r.thread) (find (λ r. is_begin_at pthread r.event && r.process == process) before)
+
 -- the task that a REQUEST names, if it names one
 abbrev pub named_task : Event → Option ℕ
 named_task (event.Request _ task) = task
@@ -65,10 +75,19 @@ pub record Names (bytes named : List ℕ) : Type 0 where
 abbrev pub begun : Tasks → ℕ → Option ℕ
 begun tasks task = hash.get (λ a b. a == b) tasks.threads task
 
+-- the same process and the same pthread_t
+abbrev pub same_place : ℕ × ℕ → ℕ × ℕ → Bool
+same_place a b = a.0 == b.0 && a.1 == b.1
+
+-- the last thread that began in a process with a pthread_t, as far as a log is read
+abbrev pub begun_at : Tasks → ℕ → ℕ → Option ℕ
+begun_at tasks process pthread = hash.get same_place tasks.at (process, pthread)
+
 -- the records of a log with numbers below one were read
 pub record HasNamed (bytes : List ℕ) (end : ℕ) (tasks : Tasks) : Type 0 where
   pub room : length tasks.named.items ≡ end_of (header_of bytes)
   pub before : List Record
   pub are : AreBelow bytes end before
   pub last : (task : ℕ) → begun tasks task ≡ last_begun task before
+  pub last_at : (process pthread : ℕ) → begun_at tasks process pthread ≡ last_begun_at process pthread before
   pub names : NamesBelow end bytes tasks.named.items

@@ -2,6 +2,7 @@
 ghost use Rattle.std.specs.Prelude.{◌≡◌, ◌+◌, ◌<◌, ◌≤◌, ◌^◌, ℕ, IfErr, IfOk, IfSome, IsTrue};
 ghost use Rattle.std.specs.Prelude.{Some, None, length, slice_set};
 ghost use Rattle.std.specs.Option.{option_map, unwrap_or};
+ghost use Rattle.pim_log.specs.Events.{mutex_of};
 ghost use Rattle.pim_log.specs.Headers.{header_of, end_of};
 ghost use Rattle.pim_log.specs.Logs.{IsLog};
 ghost use Rattle.pim_facts.specs.Covering.{Covers, Grows, HasFewThreads, HasMutex, HasId, HasRead, HasThread};
@@ -11,6 +12,7 @@ ghost use Rattle.pim_facts.specs.Faults.{IsFirstAbove, NamesOneOf, NamesOnly};
 ghost use Rattle.pim_facts.specs.declared.fault.IdsFault.TheVariants as ids;
 ghost use Rattle.pim_facts.specs.Naming.{HasNamed, Names};
 ghost use Rattle.pim_facts.specs.Giving.{AddsLevel, AddsLevelsOf, HasLevels, KnowsGiven, level_given, priority_said};
+ghost use Rattle.pim_facts.specs.Meaning.{HasBegun, MeansBelow, MeansThreads, thread_found};
 ghost use Rattle.pim_facts.specs.Placing.{FindsBelow, FindsByAddress, IsPlaced, KeepsPlaces, has_at};
 
 use crate::family::{Family, ceiling_in, family_in};
@@ -74,7 +76,9 @@ const NO_THREAD: LoggedThread = LoggedThread {
 
 impl Ids {
     /// Returns whom each record of the log is about, and which threads its requests name. A record of a mutex is about one at
-    /// the address that it has, of its process or shared between processes. Each takes four bytes a record.
+    /// the address that it has, of its process or shared between processes. Any other is about the thread that begins with it,
+    /// or about the last one that began with the task, or in its process with the pthread_t, that it names. Each takes four
+    /// bytes a record.
     ///
     /// # Errors
     ///
@@ -90,6 +94,7 @@ impl Ids {
         ensures named { IsLog log.now → IfOk result (λ found. Names log.now found.1.threads.items) }
         ensures levels { IsLog log.now → IfOk result (λ found. HasLevels log.now found.0.levels) }
         ensures addresses { IsLog log.now → IfOk result (λ found. FindsByAddress found.0 log.now) }
+        ensures meant { IsLog log.now → IfOk result (λ found. MeansThreads found.0 log.now) }
     {
         let mut ids = Ids::new(alloc, log)?;
         let mut places = Places::new(alloc)?;
@@ -106,6 +111,7 @@ impl Ids {
         ensures ended { IfOk result (λ ids. EndsBelow 1 log.now ids.ended) }
         ensures levels { IfOk result (KnowsGiven 1 log.now) }
         ensures addresses { IfOk result (λ ids. FindsBelow 1 ids log.now) }
+        ensures meant { IfOk result (λ ids. MeansBelow 1 ids log.now) }
     {
         let mut threads = Vec::new(alloc);
         threads.push(NO_THREAD)?;
@@ -181,6 +187,8 @@ impl Ids {
             IfOk result (λ _. KnowsGiven (number + 1) log.now self.new) }
         ensures addresses { IsLog log.now → HasRead log.now number self.old → FindsBelow number self.old log.now →
             IfOk result (λ _. FindsBelow (number + 1) self.new log.now) }
+        ensures meant { IsLog log.now → HasRead log.now number self.old → HasNamed log.now number tasks.old →
+            MeansBelow number self.old log.now → IfOk result (λ _. MeansBelow (number + 1) self.new log.now) }
     {
         let record = match log.record(number) {
             Some(record) => record,
@@ -209,6 +217,8 @@ impl Ids {
             AddsLevelsOf «record».now (level_given «record».now.event) self.old self.new) }
         ensures kept { IfOk result (λ _. KeepsPlaces self.old self.new) }
         ensures placed { IfOk result (IsPlaced self.new «record».now) }
+        ensures meant { HasBegun self.old tasks.now → IfOk result (λ id.
+            mutex_of «record».now.event ≡ None → id ≡ thread_found tasks.now «record».now) }
     {
         self.read_thread(record)?;
         match record.event.mutex() {
@@ -253,6 +263,7 @@ impl Ids {
         ensures levels { AddsLevel
             (option_map (λ priority. level_by priority 1) (priority_said «record».now.event)) self.old self.new }
         ensures mutexes { self.new.mutexes ≡ self.old.mutexes }
+        ensures meant { HasBegun self.old tasks.now → result ≡ thread_found tasks.now «record».now }
     {
         match record.event {
             Event::Thread { priority, .. } => {
@@ -275,9 +286,10 @@ impl Ids {
 
     /// Returns a thread that a record names, if there is one with the number.
     fn known(&self, thread: Option<u32>) -> Option<u32>
-        ensures { IfSome result (HasThread self.now) }
+        ensures thread { IfSome result (HasThread self.now) }
+        ensures meant { IfSome thread (HasThread self.now) → result ≡ thread }
     {
-        // The maps have only numbers of threads, which isn't proved of them.
+        // By `meant` of what calls it this changes nothing: the maps have only numbers of threads.
         thread.filter(|thread| (*thread as usize) < self.threads.len())
     }
 

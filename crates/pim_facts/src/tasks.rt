@@ -1,7 +1,7 @@
 //! Which thread has a number of the kernel, or is at an address.
 ghost use Rattle.std.specs.Prelude.{◌≡◌, ◌==◌, ◌&&◌, ℕ, IfOk, Some, if◌then◌else◌, slice_set, unwrap_or};
 ghost use Rattle.std.specs.Option.{option_map_or};
-ghost use Rattle.pim_facts.specs.Naming.{HasNamed, begun, is_begin, named_task};
+ghost use Rattle.pim_facts.specs.Naming.{HasNamed, begun, begun_at, is_begin, is_begin_at, named_task};
 
 use pim_log::{Event, Log, Record};
 use std::alloc::{AllocError, Global};
@@ -49,7 +49,9 @@ impl Tasks {
     }
 
     /// Returns the last thread that began in this process with this pthread_t.
-    pub fn thread_at(&self, process: u32, pthread: u64) -> Option<u32> {
+    pub fn thread_at(&self, process: u32, pthread: u64) -> Option<u32>
+        ensures { result ≡ begun_at self.now process pthread }
+    {
         self.at.get(&(process, pthread)).copied()
     }
 
@@ -61,6 +63,9 @@ impl Tasks {
     pub fn read(&mut self, record: &Record) -> Result<(), AllocError>
         ensures begun { IfOk result (λ _. (task : ℕ) → begun self.new task ≡
             (if is_begin «record».now.event && «record».now.task == task then Some «record».now.thread else begun self.old task)) }
+        ensures begun_at { IfOk result (λ _. (process pthread : ℕ) → begun_at self.new process pthread ≡
+            (if is_begin_at pthread «record».now.event && «record».now.process == process then Some «record».now.thread
+            else begun_at self.old process pthread)) }
         ensures named { IfOk result (λ _. self.new.named.items ≡
             option_map_or (λ task. slice_set self.old.named.items «record».now.number (unwrap_or (begun self.old task) 0))
             (named_task «record».now.event) self.old.named.items) }

@@ -1,5 +1,6 @@
 use Rattle.std.proofs.Common.{◌∷◌, ◌++◌, [], ◌∙◌, ap, refl}
 use Rattle.pim_facts.proofs.Giving.{begins, no-level, nobody-met, none-first}
+use Rattle.pim_facts.proofs.Meaning as meaning
 use Rattle.pim_facts.proofs.ids.Ids.new.Goals as goal
 
 pub returns-clause-levels : goal.returns-clause-levels
@@ -10,3 +11,6 @@ returns-clause-levels c =
 
 pub returns-clause-addresses : goal.returns-clause-addresses
 returns-clause-addresses c = λ number r lt at. absurd (none-first c.args.log.now number r lt at)
+
+pub returns-clause-meant : goal.returns-clause-meant
+returns-clause-meant c = meaning.begins c.args.log.now _

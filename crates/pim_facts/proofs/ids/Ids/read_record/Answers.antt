@@ -4,6 +4,7 @@ use Rattle.pim_facts.proofs.Above.{first-above}
 use Rattle.pim_facts.proofs.Covered.{later, lacks, reads}
 use Rattle.pim_facts.proofs.Ended as ended
 use Rattle.pim_facts.proofs.Giving as levels
+use Rattle.pim_facts.proofs.Meaning as meaning
 use Rattle.pim_facts.proofs.Naming as tasks
 use Rattle.pim_facts.proofs.Placing as places
 use Rattle.pim_facts.proofs.ids.Ids.read_record.Goals as goal
@@ -33,7 +34,8 @@ returns-in-None-clause-named c log read named =
 pub returns-clause-named : goal.returns-clause-named
 returns-clause-named c log read named =
     tasks.reads c.args.log.now c.args.number c.args.self.now c.args.tasks.now c.read-2.new.self c.in-Some.record log
-    c.in-Some.ensures (read.covers log) c.in_ok-read.ensures.begun c.in_ok-read.ensures.named named
+    c.in-Some.ensures (read.covers log) c.in_ok-read.ensures.begun c.in_ok-read.ensures.begun_at c.in_ok-read.ensures.named
+    named
 
 pub returns-in-None-clause-levels : goal.returns-in-None-clause-levels
 returns-in-None-clause-levels c log knows =
@@ -59,6 +61,18 @@ returns-clause-addresses c log read finds =
     places.reads c.args.log.now c.args.number c.read_time.new.self c.read.new.self c.put.new.self c.in-Some.record c.in_ok-id.id
     log c.in-Some.ensures c.read.ensures.grown c.in_ok-id.ensures.kept (c.in_ok-id.ensures.about was.mutexes)
     c.in_ok-id.ensures.placed c.put.ensures.about c.put.ensures.rest was found
+
+pub returns-in-None-clause-meant : goal.returns-in-None-clause-meant
+returns-in-None-clause-meant c log read has means =
+    meaning.lacks c.args.log.now c.args.number c.args.self.now c.in-None.ensures means
+
+pub returns-clause-meant : goal.returns-clause-meant
+returns-clause-meant c log read has means =
+    let was : _ = later c.args.log.now c.args.number c.args.self.now c.read_time.new.self _ c.read_time.ensures read in
+    let begun : _ = meaning.there c.args.log.now c.read_time.new.self c.args.number c.args.tasks.now (was.covers log) has in
+    meaning.reads c.args.log.now c.args.number c.args.self.now c.read.new.self c.put.new.self c.args.tasks.now c.in-Some.record
+    c.in_ok-id.id log c.in-Some.ensures (c.read.ensures.grown.about ∙ ap (λ d. d.of_record) c.read_time.ensures)
+    (c.in_ok-id.ensures.meant begun) c.put.ensures.about read has means
 
 pub returns-in_err-id-clause-above : goal.returns-in_err-id-clause-above
 returns-in_err-id-clause-above c =
