@@ -5,3 +5,4 @@ pub mod Naming
 pub mod Giving
 pub mod Placing
 pub mod Meaning
+pub mod Logged

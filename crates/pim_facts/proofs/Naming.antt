@@ -86,7 +86,8 @@ begin bytes tasks room none none_at = record {
   names = λ slot number r lt numbered is. let above : 0 < number = numbered.above in absurd (omega (arith, lt, above));
 }
 
-below-lacks : (bytes : List ℕ) (n : ℕ) (before : List Record) → ((slot : ℕ) → IsNumbered bytes slot n → ⊥) →
+-- the same records are below a number and the next, which no record has
+pub below-lacks : (bytes : List ℕ) (n : ℕ) (before : List Record) → ((slot : ℕ) → IsNumbered bytes slot n → ⊥) →
     AreBelow bytes n before → AreBelow bytes (n + 1) before
 below-lacks bytes n [] none are = λ k slot from lt numbered. elim (cases_lt k n) [
   | inl below ↦ are k slot from below numbered
@@ -101,6 +102,21 @@ below-lacks bytes n (r ∷ rs) none are = (
   are.2,
   are.3,
 )
+
+-- and behind a record
+pub one-more : (bytes : List ℕ) (n : ℕ) (r : Record) (before : List Record) →
+    ((slot : ℕ) × (IsNumbered bytes slot n × IsRecord bytes slot r)) → AreBelow bytes n before →
+    AreBelow bytes (n + 1) (r ∷ before)
+one-more bytes n r before found are =
+    let both : IsNumbered bytes found.0 n × IsRecord bytes found.0 r = found.1 in
+    let num : IsNumbered bytes found.0 n = both.0 in
+    let its : IsRecord bytes found.0 r = both.1 in
+    let number-is : r.number ≡ n = its.number ∙ num.stored in (
+      omega (arith, number-is),
+      (λ k slot from lt numbered. omega (arith, from, lt, number-is)),
+      record { slot = found.0; numbered = subst (λ k. IsNumbered bytes found.0 k) (sym number-is) num; is = its },
+      subst (λ k. AreBelow bytes k before) (sym number-is) are,
+    )
 
 -- behind a number that no record has
 pub lacks : (bytes : List ℕ) (n : ℕ) (tasks : Tasks) → ((slot : ℕ) → IsNumbered bytes slot n → ⊥) → HasNamed bytes n tasks →
@@ -181,12 +197,7 @@ reads bytes n ids old new r log found covers begins begins_at put has =
     record {
       room = ap length put-n ∙ put-long old.named.items n (begun old) (named_task r.event) ∙ has.room;
       before = r ∷ has.before;
-      are = (
-        omega (arith, number-is),
-        (λ k slot from lt numbered. omega (arith, from, lt, number-is)),
-        record { slot = s; numbered = subst (λ k. IsNumbered bytes s k) (sym number-is) num; is = its },
-        subst (λ k. AreBelow bytes k has.before) (sym number-is) has.are,
-      );
+      are = one-more bytes n r has.before found has.are;
       last = λ task. begins task ∙ begun-too task (is_begin r.event && r.task == task);
       last_at = λ process pthread. begins_at process pthread
           ∙ begun-at-too process pthread (is_begin_at pthread r.event && r.process == process);

@@ -34,6 +34,6 @@ id_in numbers place =
 abbrev pub id_of : Ids → ℕ → Option ℕ
 id_of ids number = id_in ids.of_record.items number
 
--- the level that the first record of a thread says; 0 of a thread that there isn't
+-- the level with which a thread begins; 0 of a thread that there isn't
 abbrev pub first_level : Ids → ℕ → ℕ
 first_level ids t = option_map_or (λ thread. thread.level) (slice_get ids.threads.items t) 0

@@ -7,3 +7,4 @@ pub mod Naming
 pub mod Giving
 pub mod Placing
 pub mod Meaning
+pub mod Logged

@@ -12,6 +12,7 @@ ghost use Rattle.pim_facts.specs.Faults.{IsFirstAbove, NamesOneOf, NamesOnly};
 ghost use Rattle.pim_facts.specs.declared.fault.IdsFault.TheVariants as ids;
 ghost use Rattle.pim_facts.specs.Naming.{HasNamed, Names};
 ghost use Rattle.pim_facts.specs.Giving.{AddsLevel, AddsLevelsOf, HasLevels, KnowsGiven, level_given, priority_said};
+ghost use Rattle.pim_facts.specs.Logged.{ChangesThread, HasLogged, HasThreads, KeepsThreads, met_by, with_begun};
 ghost use Rattle.pim_facts.specs.Meaning.{HasBegun, MeansBelow, MeansThreads, thread_found};
 ghost use Rattle.pim_facts.specs.Placing.{FindsBelow, FindsByAddress, IsPlaced, KeepsPlaces, has_at};
 
@@ -29,11 +30,11 @@ pub const MAX_THREADS: u32 = 1 << 22;
 /// A thread of a log.
 #[derive(Clone, Copy)]
 pub struct LoggedThread {
-    /// The kernel's number of its process. `None` if no record is the thread's.
+    /// The kernel's number of its process, by its last record. `None` if no record is the thread's.
     pub process: Option<u32>,
-    /// The kernel's number of the thread. `None` if no record is the thread's.
+    /// The kernel's number of the thread, by its last record. `None` if no record is the thread's.
     pub task: Option<u32>,
-    /// The level that its first record says.
+    /// The level with which it begins, by its last THREAD. 0 if it has none.
     pub level: u8,
 }
 
@@ -95,6 +96,7 @@ impl Ids {
         ensures levels { IsLog log.now → IfOk result (λ found. HasLevels log.now found.0.levels) }
         ensures addresses { IsLog log.now → IfOk result (λ found. FindsByAddress found.0 log.now) }
         ensures meant { IsLog log.now → IfOk result (λ found. MeansThreads found.0 log.now) }
+        ensures threads { IsLog log.now → IfOk result (λ found. HasThreads found.0 log.now) }
     {
         let mut ids = Ids::new(alloc, log)?;
         let mut places = Places::new(alloc)?;
@@ -112,6 +114,7 @@ impl Ids {
         ensures levels { IfOk result (KnowsGiven 1 log.now) }
         ensures addresses { IfOk result (λ ids. FindsBelow 1 ids log.now) }
         ensures meant { IfOk result (λ ids. MeansBelow 1 ids log.now) }
+        ensures threads { IfOk result (HasLogged 1 log.now) }
     {
         let mut threads = Vec::new(alloc);
         threads.push(NO_THREAD)?;
@@ -142,7 +145,7 @@ impl Ids {
         if *id == 0 { None } else { Some(*id) }
     }
 
-    /// Returns the level that the first record of a thread says: 0 if there is no such thread.
+    /// Returns the level with which a thread begins: 0 if there is no such thread.
     pub fn first_level(&self, thread: u32) -> u8
         ensures { result ≡ first_level self.now thread }
     {
@@ -189,6 +192,7 @@ impl Ids {
             IfOk result (λ _. FindsBelow (number + 1) self.new log.now) }
         ensures meant { IsLog log.now → HasRead log.now number self.old → HasNamed log.now number tasks.old →
             MeansBelow number self.old log.now → IfOk result (λ _. MeansBelow (number + 1) self.new log.now) }
+        ensures threads { HasLogged number log.now self.old → IfOk result (λ _. HasLogged (number + 1) log.now self.new) }
     {
         let record = match log.record(number) {
             Some(record) => record,
@@ -219,6 +223,8 @@ impl Ids {
         ensures placed { IfOk result (IsPlaced self.new «record».now) }
         ensures meant { HasBegun self.old tasks.now → IfOk result (λ id.
             mutex_of «record».now.event ≡ None → id ≡ thread_found tasks.now «record».now) }
+        ensures threads { IfOk result (λ _. ChangesThread «record».now.thread
+            (λ one. with_begun «record».now.event (met_by «record».now one)) self.old self.new) }
     {
         self.read_thread(record)?;
         match record.event.mutex() {
@@ -248,6 +254,7 @@ impl Ids {
         ensures levels { IfOk result (λ _. AddsLevel (ceiling_said mutex.now) self.old self.new) }
         ensures kept { IfOk result (λ _. KeepsPlaces self.old self.new) }
         ensures placed { IfOk result (λ m. IsTrue (has_at self.new «record».now.process mutex.now.address m)) }
+        ensures threads { IfOk result (λ _. self.new.threads ≡ self.old.threads) }
     {
         if matches!(record.event, Event::Init(_)) {
             self.begin_mutex(places, record, mutex)
@@ -264,6 +271,8 @@ impl Ids {
             (option_map (λ priority. level_by priority 1) (priority_said «record».now.event)) self.old self.new }
         ensures mutexes { self.new.mutexes ≡ self.old.mutexes }
         ensures meant { HasBegun self.old tasks.now → result ≡ thread_found tasks.now «record».now }
+        ensures threads { HasThread self.old «record».now.thread →
+            ChangesThread «record».now.thread (with_begun «record».now.event) self.old self.new }
     {
         match record.event {
             Event::Thread { priority, .. } => {
@@ -301,6 +310,7 @@ impl Ids {
         ensures few { IfOk result (λ _. «record».now.thread ≤ 2 ^ 22) }
         ensures levels { IfOk result (λ _. AddsLevelsOf «record».now None self.old self.new) }
         ensures mutexes { self.new.mutexes ≡ self.old.mutexes }
+        ensures threads { IfOk result (λ _. ChangesThread «record».now.thread (met_by «record».now) self.old self.new) }
     {
         if record.thread > MAX_THREADS {
             return Err(IdsFault::TooManyThreads(record.number));
@@ -317,6 +327,7 @@ impl Ids {
         ensures thread { IfOk result (λ _. HasThread self.new thread) }
         ensures levels { IfOk result (λ _. AddsLevel None self.old self.new) }
         ensures mutexes { self.new.mutexes ≡ self.old.mutexes }
+        ensures threads { IfOk result (λ _. KeepsThreads self.old self.new) }
     {
         let count = thread as usize + 1;
         if count <= self.threads.len() {
@@ -330,6 +341,8 @@ impl Ids {
         ensures grown { Grows self.old self.new }
         ensures levels { HasThread self.old «record».now.thread → AddsLevelsOf «record».now None self.old self.new }
         ensures mutexes { self.new.mutexes ≡ self.old.mutexes }
+        ensures threads { HasThread self.old «record».now.thread →
+            ChangesThread «record».now.thread (met_by «record».now) self.old self.new }
     {
         let thread = record.thread as usize;
         if thread < self.threads.len() {
@@ -346,6 +359,8 @@ impl Ids {
         ensures grown { Grows self.old self.new }
         ensures levels { AddsLevel None self.old self.new }
         ensures mutexes { self.new.mutexes ≡ self.old.mutexes }
+        ensures threads { HasThread self.old thread →
+            ChangesThread thread (λ one. record one { level = level }) self.old self.new }
     {
         if (thread as usize) < self.threads.len() {
             self.threads[thread as usize].level = level;
@@ -356,6 +371,7 @@ impl Ids {
         ensures grown { Grows self.old self.new }
         ensures levels { AddsLevel (Some level) self.old self.new }
         ensures mutexes { self.new.mutexes ≡ self.old.mutexes }
+        ensures threads { self.new.threads ≡ self.old.threads }
     {
         self.levels[level.min(MAX_LEVEL) as usize] = true;
     }
@@ -364,6 +380,7 @@ impl Ids {
         ensures grown { Grows self.old self.new }
         ensures levels { AddsLevel ceiling self.old self.new }
         ensures mutexes { self.new.mutexes ≡ self.old.mutexes }
+        ensures threads { self.new.threads ≡ self.old.threads }
     {
         if let Some(ceiling) = ceiling {
             self.keep_level(ceiling);
@@ -382,6 +399,7 @@ impl Ids {
         ensures levels { IfOk result (λ _. AddsLevel (ceiling_said mutex.now) self.old self.new) }
         ensures kept { IfOk result (λ _. KeepsPlaces self.old self.new) }
         ensures placed { IfOk result (λ m. IsTrue (has_at self.new «record».now.process mutex.now.address m)) }
+        ensures threads { IfOk result (λ _. self.new.threads ≡ self.old.threads) }
     {
         match places.mutex(record.process, mutex.address) {
             // What the map finds is looked at again, since nothing is proved of it.
@@ -416,6 +434,7 @@ impl Ids {
         ensures levels { IfOk result (λ _. AddsLevel (ceiling_said mutex.now) self.old self.new) }
         ensures kept { IfOk result (λ _. KeepsPlaces self.old self.new) }
         ensures placed { IfOk result (λ m. IsTrue (has_at self.new «record».now.process mutex.now.address m)) }
+        ensures threads { IfOk result (λ _. self.new.threads ≡ self.old.threads) }
     {
         let count = self.mutexes.len();
         if count > u32::MAX as usize {
@@ -441,6 +460,7 @@ impl Ids {
         ensures grown { Grows self.old self.new }
         ensures levels { AddsLevel (ceiling_said mutex.now) self.old self.new }
         ensures kept { KeepsPlaces self.old self.new }
+        ensures threads { self.new.threads ≡ self.old.threads }
     {
         let place = number as usize;
         let ceiling = ceiling_in(mutex);

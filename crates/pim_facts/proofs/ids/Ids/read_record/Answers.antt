@@ -4,6 +4,7 @@ use Rattle.pim_facts.proofs.Above.{first-above}
 use Rattle.pim_facts.proofs.Covered.{later, lacks, reads}
 use Rattle.pim_facts.proofs.Ended as ended
 use Rattle.pim_facts.proofs.Giving as levels
+use Rattle.pim_facts.proofs.Logged as threads
 use Rattle.pim_facts.proofs.Meaning as meaning
 use Rattle.pim_facts.proofs.Naming as tasks
 use Rattle.pim_facts.proofs.Placing as places
@@ -73,6 +74,17 @@ returns-clause-meant c log read has means =
     meaning.reads c.args.log.now c.args.number c.args.self.now c.read.new.self c.put.new.self c.args.tasks.now c.in-Some.record
     c.in_ok-id.id log c.in-Some.ensures (c.read.ensures.grown.about ∙ ap (λ d. d.of_record) c.read_time.ensures)
     (c.in_ok-id.ensures.meant begun) c.put.ensures.about read has means
+
+pub returns-in-None-clause-threads : goal.returns-in-None-clause-threads
+returns-in-None-clause-threads c has = threads.lacks c.args.log.now c.args.number c.args.self.now c.in-None.ensures has
+
+pub returns-clause-threads : goal.returns-clause-threads
+returns-clause-threads c has =
+    let was : _ = threads.kept c.args.log.now c.args.number c.args.self.now c.read_time.new.self
+    (ap (λ d. d.threads) c.read_time.ensures) has in
+    let reads : _ = threads.reads c.args.log.now c.args.number c.read_time.new.self c.read.new.self c.in-Some.record
+    c.in-Some.ensures c.in_ok-id.ensures.threads was in
+    threads.kept c.args.log.now (c.args.number + 1) c.read.new.self c.put.new.self (ap (λ d. d.threads) c.put.ensures.rest) reads
 
 pub returns-in_err-id-clause-above : goal.returns-in_err-id-clause-above
 returns-in_err-id-clause-above c =
