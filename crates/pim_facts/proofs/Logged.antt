@@ -65,7 +65,8 @@ reads bytes n old new r found changes has = record {
       ∙ one-said r has.all t (r.thread == t) (is_begin r.event);
 }
 
-below-end : (bytes : List ℕ) (n : ℕ) (all : List Record) → end_of (header_of bytes) ≤ n → AreBelow bytes n all →
+-- the same records are below the end of the log, behind the last one
+pub below-end : (bytes : List ℕ) (n : ℕ) (all : List Record) → end_of (header_of bytes) ≤ n → AreBelow bytes n all →
     AreBelow bytes (end_of (header_of bytes)) all
 below-end bytes n [] past are = λ k slot from lt numbered. are k slot from (omega (arith, lt, past)) numbered
 below-end bytes n (r ∷ rs) past are =

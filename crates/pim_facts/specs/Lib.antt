@@ -8,3 +8,4 @@ pub mod Giving
 pub mod Placing
 pub mod Meaning
 pub mod Logged
+pub mod Knowing

@@ -1,5 +1,7 @@
 //! What a mutex of a log is.
 ghost use Rattle.std.specs.Prelude.{◌≡◌};
+ghost use Rattle.std.specs.Option.{option_map};
+ghost use Rattle.pim_facts.specs.Knowing.{family_by};
 ghost use Rattle.pim_facts.specs.Levels.{ceiling_said};
 
 use crate::level::MAX_LEVEL;
@@ -28,7 +30,9 @@ impl Family {
 }
 
 /// Returns the protocol of the mutex of a record, or `None` where the log doesn't know it.
-pub fn family_in(mutex: &Mutex) -> Option<Family> {
+pub fn family_in(mutex: &Mutex) -> Option<Family>
+    ensures { result ≡ option_map (λ kind. family_by kind.protocol) mutex.now.kind }
+{
     match mutex.kind?.protocol {
         Protocol::None => Some(Family::None),
         Protocol::Inherit => Some(Family::Inherit),

@@ -1,7 +1,7 @@
 //! Whom each record of a log is about.
 ghost use Rattle.std.specs.Prelude.{◌≡◌, ◌+◌, ◌<◌, ◌≤◌, ◌^◌, ℕ, IfErr, IfOk, IfSome, IsTrue};
-ghost use Rattle.std.specs.Prelude.{Some, None, length, slice_set};
-ghost use Rattle.std.specs.Option.{option_map, unwrap_or};
+ghost use Rattle.std.specs.Prelude.{Some, None, false, length, slice_set};
+ghost use Rattle.std.specs.Option.{option_map, option_map_or, unwrap_or};
 ghost use Rattle.pim_log.specs.Events.{mutex_of};
 ghost use Rattle.pim_log.specs.Headers.{header_of, end_of};
 ghost use Rattle.pim_log.specs.Logs.{IsLog};
@@ -12,6 +12,7 @@ ghost use Rattle.pim_facts.specs.Faults.{IsFirstAbove, NamesOneOf, NamesOnly};
 ghost use Rattle.pim_facts.specs.declared.fault.IdsFault.TheVariants as ids;
 ghost use Rattle.pim_facts.specs.Naming.{HasNamed, Names};
 ghost use Rattle.pim_facts.specs.Giving.{AddsLevel, AddsLevelsOf, HasLevels, KnowsGiven, level_given, priority_said};
+ghost use Rattle.pim_facts.specs.Knowing.{KnowsBelow, KnowsMutexes, Learns, LearnsOf};
 ghost use Rattle.pim_facts.specs.Logged.{ChangesThread, HasLogged, HasThreads, KeepsThreads, met_by, with_begun};
 ghost use Rattle.pim_facts.specs.Meaning.{HasBegun, MeansBelow, MeansThreads, thread_found};
 ghost use Rattle.pim_facts.specs.Placing.{FindsBelow, FindsByAddress, IsPlaced, KeepsPlaces, has_at};
@@ -45,11 +46,11 @@ pub struct LoggedMutex {
     pub process: Option<u32>,
     /// Where it is in the memory of the process.
     pub address: u64,
-    /// Its protocol, if a record says it.
+    /// Its protocol, by its first record that says it. `None` if none does.
     pub family: Option<Family>,
-    /// The ceiling of a PROTECT mutex in its first record that says its protocol, else 0.
+    /// The ceiling of a PROTECT mutex by that record, else 0.
     pub ceiling: u8,
-    /// Whether its owner may lock it again.
+    /// Whether its owner may lock it again, by that record.
     pub is_recursive: bool,
 }
 
@@ -97,6 +98,7 @@ impl Ids {
         ensures addresses { IsLog log.now → IfOk result (λ found. FindsByAddress found.0 log.now) }
         ensures meant { IsLog log.now → IfOk result (λ found. MeansThreads found.0 log.now) }
         ensures threads { IsLog log.now → IfOk result (λ found. HasThreads found.0 log.now) }
+        ensures kinds { IsLog log.now → IfOk result (λ found. KnowsMutexes found.0 log.now) }
     {
         let mut ids = Ids::new(alloc, log)?;
         let mut places = Places::new(alloc)?;
@@ -115,6 +117,7 @@ impl Ids {
         ensures addresses { IfOk result (λ ids. FindsBelow 1 ids log.now) }
         ensures meant { IfOk result (λ ids. MeansBelow 1 ids log.now) }
         ensures threads { IfOk result (HasLogged 1 log.now) }
+        ensures kinds { IfOk result (KnowsBelow 1 log.now) }
     {
         let mut threads = Vec::new(alloc);
         threads.push(NO_THREAD)?;
@@ -193,6 +196,8 @@ impl Ids {
         ensures meant { IsLog log.now → HasRead log.now number self.old → HasNamed log.now number tasks.old →
             MeansBelow number self.old log.now → IfOk result (λ _. MeansBelow (number + 1) self.new log.now) }
         ensures threads { HasLogged number log.now self.old → IfOk result (λ _. HasLogged (number + 1) log.now self.new) }
+        ensures kinds { HasRead log.now number self.old → KnowsBelow number log.now self.old →
+            IfOk result (λ _. KnowsBelow (number + 1) log.now self.new) }
     {
         let record = match log.record(number) {
             Some(record) => record,
@@ -225,6 +230,7 @@ impl Ids {
             mutex_of «record».now.event ≡ None → id ≡ thread_found tasks.now «record».now) }
         ensures threads { IfOk result (λ _. ChangesThread «record».now.thread
             (λ one. with_begun «record».now.event (met_by «record».now one)) self.old self.new) }
+        ensures kinds { IfOk result (λ id. LearnsOf «record».now.event id self.old self.new) }
     {
         self.read_thread(record)?;
         match record.event.mutex() {
@@ -255,6 +261,7 @@ impl Ids {
         ensures kept { IfOk result (λ _. KeepsPlaces self.old self.new) }
         ensures placed { IfOk result (λ m. IsTrue (has_at self.new «record».now.process mutex.now.address m)) }
         ensures threads { IfOk result (λ _. self.new.threads ≡ self.old.threads) }
+        ensures kinds { IfOk result (λ m. Learns m mutex.now.kind self.old self.new) }
     {
         if matches!(record.event, Event::Init(_)) {
             self.begin_mutex(places, record, mutex)
@@ -400,6 +407,7 @@ impl Ids {
         ensures kept { IfOk result (λ _. KeepsPlaces self.old self.new) }
         ensures placed { IfOk result (λ m. IsTrue (has_at self.new «record».now.process mutex.now.address m)) }
         ensures threads { IfOk result (λ _. self.new.threads ≡ self.old.threads) }
+        ensures kinds { IfOk result (λ m. Learns m mutex.now.kind self.old self.new) }
     {
         match places.mutex(record.process, mutex.address) {
             // What the map finds is looked at again, since nothing is proved of it.
@@ -435,6 +443,7 @@ impl Ids {
         ensures kept { IfOk result (λ _. KeepsPlaces self.old self.new) }
         ensures placed { IfOk result (λ m. IsTrue (has_at self.new «record».now.process mutex.now.address m)) }
         ensures threads { IfOk result (λ _. self.new.threads ≡ self.old.threads) }
+        ensures kinds { IfOk result (λ m. Learns m mutex.now.kind self.old self.new) }
     {
         let count = self.mutexes.len();
         if count > u32::MAX as usize {
@@ -461,6 +470,7 @@ impl Ids {
         ensures levels { AddsLevel (ceiling_said mutex.now) self.old self.new }
         ensures kept { KeepsPlaces self.old self.new }
         ensures threads { self.new.threads ≡ self.old.threads }
+        ensures kinds { number < length self.old.mutexes.items → Learns number mutex.now.kind self.old self.new }
     {
         let place = number as usize;
         let ceiling = ceiling_in(mutex);
@@ -483,7 +493,9 @@ fn process_of(record: &Record, mutex: &Mutex) -> Option<u32>
     }
 }
 
-fn is_recursive(mutex: &Mutex) -> bool {
+fn is_recursive(mutex: &Mutex) -> bool
+    ensures { result ≡ option_map_or (λ kind. kind.is_recursive) mutex.now.kind false }
+{
     match mutex.kind {
         Some(kind) => kind.is_recursive,
         None => false,

@@ -5,6 +5,7 @@ use Rattle.pim_log.specs.Headers.{end_of}
 use Rattle.pim_facts.proofs.Covered.{covered}
 use Rattle.pim_facts.proofs.Ended.{ended}
 use Rattle.pim_facts.proofs.Giving.{given}
+use Rattle.pim_facts.proofs.Knowing.{known}
 use Rattle.pim_facts.proofs.Logged.{logged}
 use Rattle.pim_facts.proofs.Meaning.{means}
 use Rattle.pim_facts.proofs.Naming.{named}
@@ -76,6 +77,15 @@ returns-clause-threads c log =
       grind (arith, common_steps, c.loop-number-test.false),
     ))
 
+pub returns-clause-kinds : goal.returns-clause-kinds
+returns-clause-kinds c log =
+    known c.args.log.now c.loop-number.number c.end-number-end.result c.loop-number.ids (c.loop-number.invariant.1 log).6
+    (c.end-number-end.ensures ∙ ap (λ h. end_of h) c.header.ensures)
+    (first_of (
+      omega (arith, c.loop-number-test.false),
+      grind (arith, common_steps, c.loop-number-test.false),
+    ))
+
 pub loop-number-preserved : goal.loop-number-preserved
 loop-number-preserved c = (
   c.in_ok-read_record.ensures.read c.loop-number.invariant.0,
@@ -87,6 +97,7 @@ loop-number-preserved c = (
     c.in_ok-read_record.ensures.meant log c.loop-number.invariant.0 (c.loop-number.invariant.1 log).1
         (c.loop-number.invariant.1 log).4,
     c.in_ok-read_record.ensures.threads (c.loop-number.invariant.1 log).5,
+    c.in_ok-read_record.ensures.kinds c.loop-number.invariant.0 (c.loop-number.invariant.1 log).6,
   ),
 )
 

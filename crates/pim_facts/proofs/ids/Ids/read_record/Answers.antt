@@ -4,6 +4,7 @@ use Rattle.pim_facts.proofs.Above.{first-above}
 use Rattle.pim_facts.proofs.Covered.{later, lacks, reads}
 use Rattle.pim_facts.proofs.Ended as ended
 use Rattle.pim_facts.proofs.Giving as levels
+use Rattle.pim_facts.proofs.Knowing as kinds
 use Rattle.pim_facts.proofs.Logged as threads
 use Rattle.pim_facts.proofs.Meaning as meaning
 use Rattle.pim_facts.proofs.Naming as tasks
@@ -85,6 +86,18 @@ returns-clause-threads c has =
     let reads : _ = threads.reads c.args.log.now c.args.number c.read_time.new.self c.read.new.self c.in-Some.record
     c.in-Some.ensures c.in_ok-id.ensures.threads was in
     threads.kept c.args.log.now (c.args.number + 1) c.read.new.self c.put.new.self (ap (λ d. d.threads) c.put.ensures.rest) reads
+
+pub returns-in-None-clause-kinds : goal.returns-in-None-clause-kinds
+returns-in-None-clause-kinds c read knows = kinds.lacks c.args.log.now c.args.number c.args.self.now c.in-None.ensures knows
+
+pub returns-clause-kinds : goal.returns-clause-kinds
+returns-clause-kinds c read knows =
+    let was : _ = later c.args.log.now c.args.number c.args.self.now c.read_time.new.self _ c.read_time.ensures read in
+    let known : _ = kinds.later c.args.log.now c.args.number c.args.self.now c.read_time.new.self
+    (ap (λ d. d.of_record) c.read_time.ensures) (ap (λ d. d.mutexes) c.read_time.ensures) knows in
+    kinds.reads c.args.log.now c.args.number c.read_time.new.self c.read.new.self c.put.new.self c.in-Some.record c.in_ok-id.id
+    c.in-Some.ensures c.read.ensures.grown.about (c.in_ok-id.ensures.about was.mutexes) c.in_ok-id.ensures.kinds
+    c.put.ensures.about (ap (λ d. d.mutexes) c.put.ensures.rest) was known
 
 pub returns-in_err-id-clause-above : goal.returns-in_err-id-clause-above
 returns-in_err-id-clause-above c =
