@@ -3,7 +3,8 @@ pub mod Covered
 pub mod Ended
 pub mod Naming
 pub mod Giving
-pub mod Placing
+pub mod Addresses
+pub mod Meant
 pub mod Meaning
 pub mod Logged
 pub mod Knowing

@@ -86,7 +86,7 @@ begin bytes tasks room none none_at = record {
   names = λ slot number r lt numbered is. let above : 0 < number = numbered.above in absurd (omega (arith, lt, above));
 }
 
--- the same records are below a number and the next, which no record has
+-- the same records are below a number that none has
 pub below-lacks : (bytes : List ℕ) (n : ℕ) (before : List Record) → ((slot : ℕ) → IsNumbered bytes slot n → ⊥) →
     AreBelow bytes n before → AreBelow bytes (n + 1) before
 below-lacks bytes n [] none are = λ k slot from lt numbered. elim (cases_lt k n) [

@@ -6,6 +6,7 @@ pub mod Ending
 pub mod Naming
 pub mod Giving
 pub mod Placing
+pub mod Addresses
 pub mod Meaning
 pub mod Logged
 pub mod Knowing

@@ -76,12 +76,12 @@ abbrev pub begun : Tasks → ℕ → Option ℕ
 begun tasks task = hash.get (λ a b. a == b) tasks.threads task
 
 -- the same process and the same pthread_t
-abbrev pub same_place : ℕ × ℕ → ℕ × ℕ → Bool
-same_place a b = a.0 == b.0 && a.1 == b.1
+abbrev pub same_pthread : ℕ × ℕ → ℕ × ℕ → Bool
+same_pthread a b = a.0 == b.0 && a.1 == b.1
 
 -- the last thread that began in a process with a pthread_t, as far as a log is read
 abbrev pub begun_at : Tasks → ℕ → ℕ → Option ℕ
-begun_at tasks process pthread = hash.get same_place tasks.at (process, pthread)
+begun_at tasks process pthread = hash.get same_pthread tasks.at (process, pthread)
 
 -- the records of a log with numbers below one were read
 pub record HasNamed (bytes : List ℕ) (end : ℕ) (tasks : Tasks) : Type 0 where

@@ -23,16 +23,7 @@ abbrev pub IsPlaced : Ids → Record → Option ℕ → Type 0
 IsPlaced ids r id =
     IfSome (mutex_of r.event) (λ mutex. IsTrue (option_map_or (has_at ids r.process mutex.address) id false))
 
--- so it is of whom each record of a log is about that has a number below one
-abbrev pub FindsBelow : ℕ → Ids → List ℕ → Type 0
-FindsBelow end ids bytes =
-    (number : ℕ) (r : Record) → number < end → IsAt bytes number r → IsPlaced ids r (id_of ids number)
-
 -- each record of a log that is of a mutex is about one at its address, of its process or shared
 abbrev pub FindsByAddress : Ids → List ℕ → Type 0
-FindsByAddress ids bytes = FindsBelow (end_of (header_of bytes)) ids bytes
-
--- each mutex keeps its number, its address and its process
-abbrev pub KeepsPlaces : Ids → Ids → Type 0
-KeepsPlaces old new =
-    (process address m : ℕ) → IsTrue (has_at old process address m) → IsTrue (has_at new process address m)
+FindsByAddress ids bytes = (number : ℕ) (r : Record) → number < end_of (header_of bytes) → IsAt bytes number r →
+    IsPlaced ids r (id_of ids number)

@@ -1,21 +1,25 @@
 //! Whom each record of a log is about.
-ghost use Rattle.std.specs.Prelude.{◌≡◌, ◌+◌, ◌<◌, ◌≤◌, ◌^◌, ℕ, IfErr, IfOk, IfSome, IsTrue};
-ghost use Rattle.std.specs.Prelude.{Some, None, false, length, slice_set};
+ghost use Rattle.std.specs.Prelude.{◌≡◌, ◌+◌, ◌<◌, ◌≤◌, ◌^◌, ℕ, IfErr, IfNone, IfOk, IfSome, false, List};
+ghost use Rattle.std.specs.Prelude.{Some, None, [], ◌∷◌, length, slice_set};
 ghost use Rattle.std.specs.Option.{option_map, option_map_or, unwrap_or};
+ghost use Rattle.pim_log.specs.declared.record.Record.{Record};
 ghost use Rattle.pim_log.specs.Events.{mutex_of};
 ghost use Rattle.pim_log.specs.Headers.{header_of, end_of};
 ghost use Rattle.pim_log.specs.Logs.{IsLog};
-ghost use Rattle.pim_facts.specs.Covering.{Covers, Grows, HasFewThreads, HasMutex, HasId, HasRead, HasThread};
+ghost use Rattle.pim_facts.specs.Covering.{Covers, Grows, HasFewThreads, HasRead, HasThread};
 ghost use Rattle.pim_facts.specs.Levels.{ceiling_said, id_of, first_level, level_by};
 ghost use Rattle.pim_facts.specs.Ending.{EndsAt, EndsBelow, later_of};
 ghost use Rattle.pim_facts.specs.Faults.{IsFirstAbove, NamesOneOf, NamesOnly};
 ghost use Rattle.pim_facts.specs.declared.fault.IdsFault.TheVariants as ids;
 ghost use Rattle.pim_facts.specs.Naming.{HasNamed, Names};
 ghost use Rattle.pim_facts.specs.Giving.{AddsLevel, AddsLevelsOf, HasLevels, KnowsGiven, level_given, priority_said};
+ghost use Rattle.pim_facts.specs.Addresses.{Addresses, FindsMutexes, HasAddresses, IsMeant, KnowsAddresses};
+ghost use Rattle.pim_facts.specs.Addresses.{addresses_of, after_record, behind, is_init, mutex_by, next_mutex, owner_by};
+ghost use Rattle.pim_facts.specs.Addresses.{places_of, says_shared, with_mutex};
 ghost use Rattle.pim_facts.specs.Knowing.{KnowsBelow, KnowsMutexes, Learns, LearnsOf};
 ghost use Rattle.pim_facts.specs.Logged.{ChangesThread, HasLogged, HasThreads, KeepsThreads, met_by, with_begun};
 ghost use Rattle.pim_facts.specs.Meaning.{HasBegun, MeansBelow, MeansThreads, thread_found};
-ghost use Rattle.pim_facts.specs.Placing.{FindsBelow, FindsByAddress, IsPlaced, KeepsPlaces, has_at};
+ghost use Rattle.pim_facts.specs.Placing.{FindsByAddress};
 
 use crate::family::{Family, ceiling_in, family_in};
 use crate::fault::IdsFault;
@@ -77,10 +81,10 @@ const NO_THREAD: LoggedThread = LoggedThread {
 };
 
 impl Ids {
-    /// Returns whom each record of the log is about, and which threads its requests name. A record of a mutex is about one at
-    /// the address that it has, of its process or shared between processes. Any other is about the thread that begins with it,
-    /// or about the last one that began with the task, or in its process with the pthread_t, that it names. Each takes four
-    /// bytes a record.
+    /// Returns whom each record of the log is about, and which threads its requests name. A record of a mutex is about the one
+    /// that its process has at the address, or else the one that processes share there. An INIT is about a new one, and so is
+    /// the first record at an address. Any other record is about the thread that begins with it, or about the last one that
+    /// began with the task, or in its process with the pthread_t, that it names. Each takes four bytes a record.
     ///
     /// # Errors
     ///
@@ -96,6 +100,7 @@ impl Ids {
         ensures named { IsLog log.now → IfOk result (λ found. Names log.now found.1.threads.items) }
         ensures levels { IsLog log.now → IfOk result (λ found. HasLevels log.now found.0.levels) }
         ensures addresses { IsLog log.now → IfOk result (λ found. FindsByAddress found.0 log.now) }
+        ensures mutexes { IsLog log.now → IfOk result (λ found. FindsMutexes found.0 log.now) }
         ensures meant { IsLog log.now → IfOk result (λ found. MeansThreads found.0 log.now) }
         ensures threads { IsLog log.now → IfOk result (λ found. HasThreads found.0 log.now) }
         ensures kinds { IsLog log.now → IfOk result (λ found. KnowsMutexes found.0 log.now) }
@@ -114,7 +119,7 @@ impl Ids {
         ensures read { IfOk result (HasRead log.now 1) }
         ensures ended { IfOk result (λ ids. EndsBelow 1 log.now ids.ended) }
         ensures levels { IfOk result (KnowsGiven 1 log.now) }
-        ensures addresses { IfOk result (λ ids. FindsBelow 1 ids log.now) }
+        ensures mutexes { IfOk result (λ ids. places_of ids ≡ (None, 0) ∷ []) }
         ensures meant { IfOk result (λ ids. MeansBelow 1 ids log.now) }
         ensures threads { IfOk result (HasLogged 1 log.now) }
         ensures kinds { IfOk result (KnowsBelow 1 log.now) }
@@ -184,20 +189,21 @@ impl Ids {
         ensures fault { IfErr result (NamesOneOf (end_of (header_of log.now))) }
         ensures above { IsLog log.now → HasRead log.now number self.old → IfErr result (λ fault.
             (n : ℕ) → fault ≡ ids.TooManyThreads n → IsFirstAbove log.now n) }
-        ensures read { HasRead log.now number self.old → IfOk result (λ _. HasRead log.now (number + 1) self.new) }
+        ensures read { HasRead log.now number self.old → HasAddresses log.now number self.old places.old →
+            IfOk result (λ _. HasRead log.now (number + 1) self.new) }
         ensures ended { IsLog log.now → EndsBelow number log.now self.old.ended →
             IfOk result (λ _. EndsBelow (number + 1) log.now self.new.ended) }
         ensures named { IsLog log.now → HasRead log.now number self.old → HasNamed log.now number tasks.old →
             IfOk result (λ _. HasNamed log.now (number + 1) tasks.new) }
         ensures levels { IsLog log.now → KnowsGiven number log.now self.old →
             IfOk result (λ _. KnowsGiven (number + 1) log.now self.new) }
-        ensures addresses { IsLog log.now → HasRead log.now number self.old → FindsBelow number self.old log.now →
-            IfOk result (λ _. FindsBelow (number + 1) self.new log.now) }
+        ensures mutexes { HasRead log.now number self.old → HasAddresses log.now number self.old places.old →
+            IfOk result (λ _. HasAddresses log.now (number + 1) self.new places.new) }
         ensures meant { IsLog log.now → HasRead log.now number self.old → HasNamed log.now number tasks.old →
             MeansBelow number self.old log.now → IfOk result (λ _. MeansBelow (number + 1) self.new log.now) }
         ensures threads { HasLogged number log.now self.old → IfOk result (λ _. HasLogged (number + 1) log.now self.new) }
-        ensures kinds { HasRead log.now number self.old → KnowsBelow number log.now self.old →
-            IfOk result (λ _. KnowsBelow (number + 1) log.now self.new) }
+        ensures kinds { HasRead log.now number self.old → HasAddresses log.now number self.old places.old →
+            KnowsBelow number log.now self.old → IfOk result (λ _. KnowsBelow (number + 1) log.now self.new) }
     {
         let record = match log.record(number) {
             Some(record) => record,
@@ -221,16 +227,18 @@ impl Ids {
         ensures grown { Grows self.old self.new }
         ensures thread { IfOk result (λ _. HasThread self.new «record».now.thread) }
         ensures few { IfOk result (λ _. «record».now.thread ≤ 2 ^ 22) }
-        ensures about { 0 < length self.old.mutexes.items → IfOk result (HasId self.new «record».now.event) }
+        ensures about { IfOk result (λ id.
+            IfNone (mutex_of «record».now.event) (IfSome id (HasThread self.new))) }
         ensures levels { IfOk result (λ _.
             AddsLevelsOf «record».now (level_given «record».now.event) self.old self.new) }
-        ensures kept { IfOk result (λ _. KeepsPlaces self.old self.new) }
-        ensures placed { IfOk result (IsPlaced self.new «record».now) }
+        ensures mutexes { (known : Addresses) → KnowsAddresses known self.old places.old → IfOk result (λ id.
+            IsMeant known «record».now id × KnowsAddresses (after_record «record».now known) self.new places.new) }
         ensures meant { HasBegun self.old tasks.now → IfOk result (λ id.
             mutex_of «record».now.event ≡ None → id ≡ thread_found tasks.now «record».now) }
         ensures threads { IfOk result (λ _. ChangesThread «record».now.thread
             (λ one. with_begun «record».now.event (met_by «record».now one)) self.old self.new) }
-        ensures kinds { IfOk result (λ id. LearnsOf «record».now.event id self.old self.new) }
+        ensures kinds { (before : List Record) → KnowsAddresses (addresses_of before) self.old places.old →
+            IfOk result (λ id. LearnsOf «record».now.event id self.old self.new) }
     {
         self.read_thread(record)?;
         match record.event.mutex() {
@@ -256,12 +264,13 @@ impl Ids {
         mutex: &Mutex,
     ) -> Result<u32, AllocError>
         ensures grown { Grows self.old self.new }
-        ensures mutex { 0 < length self.old.mutexes.items → IfOk result (HasMutex self.new) }
         ensures levels { IfOk result (λ _. AddsLevel (ceiling_said mutex.now) self.old self.new) }
-        ensures kept { IfOk result (λ _. KeepsPlaces self.old self.new) }
-        ensures placed { IfOk result (λ m. IsTrue (has_at self.new «record».now.process mutex.now.address m)) }
+        ensures mutexes { (known : Addresses) → KnowsAddresses known self.old places.old → IfOk result (λ m.
+            (m ≡ mutex_by known «record».now mutex.now)
+            × KnowsAddresses (behind known «record».now mutex.now) self.new places.new) }
         ensures threads { IfOk result (λ _. self.new.threads ≡ self.old.threads) }
-        ensures kinds { IfOk result (λ m. Learns m mutex.now.kind self.old self.new) }
+        ensures kinds { (before : List Record) → KnowsAddresses (addresses_of before) self.old places.old →
+            IfOk result (λ m. Learns m mutex.now.kind self.old self.new) }
     {
         if matches!(record.event, Event::Init(_)) {
             self.begin_mutex(places, record, mutex)
@@ -402,31 +411,20 @@ impl Ids {
         mutex: &Mutex,
     ) -> Result<u32, AllocError>
         ensures grown { Grows self.old self.new }
-        ensures mutex { 0 < length self.old.mutexes.items → IfOk result (HasMutex self.new) }
         ensures levels { IfOk result (λ _. AddsLevel (ceiling_said mutex.now) self.old self.new) }
-        ensures kept { IfOk result (λ _. KeepsPlaces self.old self.new) }
-        ensures placed { IfOk result (λ m. IsTrue (has_at self.new «record».now.process mutex.now.address m)) }
+        ensures mutexes { (known : Addresses) → KnowsAddresses known self.old places.old →
+            is_init «record».now.event ≡ false → IfOk result (λ m. (m ≡ mutex_by known «record».now mutex.now)
+            × KnowsAddresses (behind known «record».now mutex.now) self.new places.new) }
         ensures threads { IfOk result (λ _. self.new.threads ≡ self.old.threads) }
-        ensures kinds { IfOk result (λ m. Learns m mutex.now.kind self.old self.new) }
+        ensures kinds { (before : List Record) → KnowsAddresses (addresses_of before) self.old places.old →
+            IfOk result (λ m. Learns m mutex.now.kind self.old self.new) }
     {
         match places.mutex(record.process, mutex.address) {
-            // What the map finds is looked at again, since nothing is proved of it.
-            Some(number) if number != 0 && self.has_at(record.process, mutex.address, number) => {
+            Some(number) => {
                 self.learn(number, mutex);
                 Ok(number)
             }
-            _ => self.begin_mutex(places, record, mutex),
-        }
-    }
-
-    /// Returns whether there is a mutex with this number, and it is at this address of this process.
-    fn has_at(&self, process: u32, address: u64, number: u32) -> bool
-        ensures { result ≡ has_at self.now process address number }
-    {
-        match self.mutexes.get(number as usize) {
-            Some(mutex) => mutex.address == address
-                && mutex.process.is_none_or(|own| own == process),
-            None => false,
+            None => self.begin_mutex(places, record, mutex),
         }
     }
 
@@ -438,10 +436,10 @@ impl Ids {
         mutex: &Mutex,
     ) -> Result<u32, AllocError>
         ensures grown { Grows self.old self.new }
-        ensures mutex { 0 < length self.old.mutexes.items → IfOk result (HasMutex self.new) }
         ensures levels { IfOk result (λ _. AddsLevel (ceiling_said mutex.now) self.old self.new) }
-        ensures kept { IfOk result (λ _. KeepsPlaces self.old self.new) }
-        ensures placed { IfOk result (λ m. IsTrue (has_at self.new «record».now.process mutex.now.address m)) }
+        ensures mutexes { (known : Addresses) → KnowsAddresses known self.old places.old → IfOk result (λ m.
+            (m ≡ next_mutex known) × KnowsAddresses
+            (with_mutex (says_shared mutex.now) «record».now.process mutex.now.address known) self.new places.new) }
         ensures threads { IfOk result (λ _. self.new.threads ≡ self.old.threads) }
         ensures kinds { IfOk result (λ m. Learns m mutex.now.kind self.old self.new) }
     {
@@ -450,7 +448,8 @@ impl Ids {
             return Err(AllocError);
         }
         let number = count as u32;
-        let process = process_of(record, mutex);
+        let is_shared = is_shared(mutex);
+        let process = owner_of(is_shared, record.process);
         let ceiling = ceiling_in(mutex);
         self.keep_ceiling(ceiling);
         self.mutexes.push(LoggedMutex {
@@ -460,7 +459,7 @@ impl Ids {
             ceiling: ceiling.unwrap_or(0),
             is_recursive: is_recursive(mutex),
         })?;
-        places.begin_mutex(process, record, mutex.address, number)?;
+        places.begin_mutex(record.process, is_shared, mutex.address, number)?;
         Ok(number)
     }
 
@@ -468,7 +467,7 @@ impl Ids {
     fn learn(&mut self, number: u32, mutex: &Mutex)
         ensures grown { Grows self.old self.new }
         ensures levels { AddsLevel (ceiling_said mutex.now) self.old self.new }
-        ensures kept { KeepsPlaces self.old self.new }
+        ensures places { places_of self.new ≡ places_of self.old }
         ensures threads { self.new.threads ≡ self.old.threads }
         ensures kinds { number < length self.old.mutexes.items → Learns number mutex.now.kind self.old self.new }
     {
@@ -483,16 +482,24 @@ impl Ids {
     }
 }
 
-/// Returns the process of the mutex of a record: none of one that processes share.
-fn process_of(record: &Record, mutex: &Mutex) -> Option<u32>
-    ensures { IfSome result (λ process. process ≡ «record».now.process) }
+/// Returns whether a record says that processes share its mutex.
+fn is_shared(mutex: &Mutex) -> bool
+    ensures { result ≡ says_shared mutex.now }
 {
     match mutex.kind {
-        Some(kind) if kind.is_shared => None,
-        _ => Some(record.process),
+        Some(kind) => kind.is_shared,
+        None => false,
     }
 }
 
+/// Returns the process of a mutex that begins with a record of this one: none of one that processes share.
+fn owner_of(is_shared: bool, process: u32) -> Option<u32>
+    ensures { result ≡ owner_by is_shared process }
+{
+    if is_shared { None } else { Some(process) }
+}
+
+/// Returns whether a record says that the owner of its mutex may lock it again.
 fn is_recursive(mutex: &Mutex) -> bool
     ensures { result ≡ option_map_or (λ kind. kind.is_recursive) mutex.now.kind false }
 {

@@ -1,6 +1,8 @@
 //! Which mutex is at each address.
+ghost use Rattle.std.specs.Prelude.{◌≡◌, IfOk, OnOk, Some, None, [], slice_set};
+ghost use Rattle.std.specs.Option.{option_or};
+ghost use Rattle.pim_facts.specs.Addresses.{Addresses, KnowsPlaces, addresses_of, mapped, meant, next_mutex, place_beside, with_mutex};
 
-use pim_log::Record;
 use std::alloc::{AllocError, Global};
 use std::collections::HashMap;
 
@@ -26,7 +28,9 @@ struct Found {
 const FOUND: u64 = 1021;
 
 /// Returns the place beside the map of the mutexes at an address.
-fn place_of(address: u64) -> usize {
+fn place_of(address: u64) -> usize
+    ensures { result ≡ place_beside address }
+{
     (address / 8 % FOUND) as usize
 }
 
@@ -36,7 +40,9 @@ impl Places {
     /// # Errors
     ///
     /// Returns `AllocError` if out of memory.
-    pub fn new(alloc: Global) -> Result<Places, AllocError> {
+    pub fn new(alloc: Global) -> Result<Places, AllocError>
+        ensures { IfOk result (KnowsPlaces (addresses_of [])) }
+    {
         Ok(Places {
             mutexes: HashMap::new(alloc),
             found: vec![in alloc; None; FOUND as usize]?,
@@ -44,21 +50,26 @@ impl Places {
     }
 
     /// Returns the mutex at an address of this process, if the log knows it.
-    pub fn mutex(&mut self, process: u32, address: u64) -> Option<u32> {
+    pub fn mutex(&mut self, process: u32, address: u64) -> Option<u32>
+        ensures meant { (known : Addresses) → KnowsPlaces known self.old → result ≡ meant known process address }
+        ensures known { (known : Addresses) → KnowsPlaces known self.old → KnowsPlaces known self.new }
+    {
         match self.found.get(place_of(address)) {
             Some(Some(found)) if found.address == address && found.process == process => {
                 Some(found.mutex)
             }
             _ => {
-                let mutex = self.search(process, address)?;
-                self.keep_found(process, address, mutex);
-                Some(mutex)
+                let found = self.search(process, address)?;
+                self.keep_found(process, address, found);
+                Some(found)
             }
         }
     }
 
     /// Returns the mutex at an address of this process by the map.
-    fn search(&self, process: u32, address: u64) -> Option<u32> {
+    fn search(&self, process: u32, address: u64) -> Option<u32>
+        ensures { result ≡ option_or (mapped self.now (Some process) address) (mapped self.now None address) }
+    {
         match self.mutexes.get(&(Some(process), address)) {
             Some(found) => Some(*found),
             None => self.mutexes.get(&(None, address)).copied(),
@@ -66,7 +77,11 @@ impl Places {
     }
 
     /// Keeps a mutex beside the map, in place of what was found at its address.
-    fn keep_found(&mut self, process: u32, address: u64, mutex: u32) {
+    fn keep_found(&mut self, process: u32, address: u64, mutex: u32)
+        ensures map { self.new.mutexes ≡ self.old.mutexes }
+        ensures beside { self.new.found.items ≡ slice_set self.old.found.items (place_beside address)
+            (Some (record { process = process; mutex = mutex; address = address })) }
+    {
         let place = place_of(address);
         if place < self.found.len() {
             self.found[place] = Some(Found {
@@ -77,24 +92,29 @@ impl Places {
         }
     }
 
-    /// Keeps where a mutex is found. One that processes share takes the place of the one before it
-    /// that wasn't shared.
+    /// Keeps where a mutex is found that begins with a record of this process. One that processes share takes the place of
+    /// the process's own.
     ///
     /// # Errors
     ///
     /// Returns `AllocError` if out of memory.
     pub fn begin_mutex(
         &mut self,
-        process: Option<u32>,
-        record: &Record,
+        process: u32,
+        is_shared: bool,
         address: u64,
         mutex: u32,
-    ) -> Result<(), AllocError> {
-        if process.is_none() {
-            let _before = self.mutexes.remove(&(Some(record.process), address));
+    ) -> Result<(), AllocError>
+        ensures { (known : Addresses) → KnowsPlaces known self.old → mutex ≡ next_mutex known →
+            OnOk result (KnowsPlaces (with_mutex is_shared process address known) self.new) }
+    {
+        self.keep_found(process, address, mutex);
+        if is_shared {
+            let _before = self.mutexes.remove(&(Some(process), address));
+            self.mutexes.insert((None, address), mutex)?;
+        } else {
+            self.mutexes.insert((Some(process), address), mutex)?;
         }
-        self.keep_found(record.process, address, mutex);
-        self.mutexes.insert((process, address), mutex)?;
         Ok(())
     }
 }

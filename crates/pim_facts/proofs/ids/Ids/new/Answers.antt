@@ -1,6 +1,6 @@
 use Rattle.std.proofs.Common.{◌∷◌, ◌++◌, [], ◌∙◌, ap, refl}
 use Rattle.pim_facts.specs.Logged.{nobody}
-use Rattle.pim_facts.proofs.Giving.{begins, no-level, nobody-met, none-first}
+use Rattle.pim_facts.proofs.Giving.{begins, no-level, nobody-met}
 use Rattle.pim_facts.proofs.Knowing as kinds
 use Rattle.pim_facts.proofs.Logged as threads
 use Rattle.pim_facts.proofs.Meaning as meaning
@@ -11,9 +11,6 @@ returns-clause-levels c =
     begins c.args.log.now _ refl (no-level 101)
     (nobody-met c.push.new.self.items _
     (c.in_ok-push.ensures.items ∙ ap (λ xs. xs ++ _ ∷ []) c.new-threads.ensures.items) refl)
-
-pub returns-clause-addresses : goal.returns-clause-addresses
-returns-clause-addresses c = λ number r lt at. absurd (none-first c.args.log.now number r lt at)
 
 pub returns-clause-meant : goal.returns-clause-meant
 returns-clause-meant c = meaning.begins c.args.log.now _

@@ -1,5 +1,6 @@
 use Rattle.std.proofs.Common.{◌+◌, ap, ◌∙◌}
 use Rattle.std.proofs.lemmas.Result.{err_from_is_err_and}
+use Rattle.pim_facts.specs.Addresses.{addresses_of}
 use Rattle.pim_facts.proofs.Above.{first-above}
 use Rattle.pim_facts.proofs.Covered.{later, lacks, reads}
 use Rattle.pim_facts.proofs.Ended as ended
@@ -8,20 +9,24 @@ use Rattle.pim_facts.proofs.Knowing as kinds
 use Rattle.pim_facts.proofs.Logged as threads
 use Rattle.pim_facts.proofs.Meaning as meaning
 use Rattle.pim_facts.proofs.Naming as tasks
-use Rattle.pim_facts.proofs.Placing as places
+use Rattle.pim_facts.proofs.Meant as mutexes
 use Rattle.pim_facts.proofs.ids.Ids.read_record.Goals as goal
 
 pub returns-in-None-clause-read : goal.returns-in-None-clause-read
-returns-in-None-clause-read c = lacks c.args.log.now c.args.number c.args.self.now c.in-None.ensures
+returns-in-None-clause-read c read has = lacks c.args.log.now c.args.number c.args.self.now c.in-None.ensures read
 
 pub returns-in-None-clause-ended : goal.returns-in-None-clause-ended
 returns-in-None-clause-ended c log = ended.lacks c.args.log.now c.args.number c.args.self.now.ended c.in-None.ensures
 
 pub returns-clause-read : goal.returns-clause-read
-returns-clause-read c read =
+returns-clause-read c read has =
     let was : _ = later c.args.log.now c.args.number c.args.self.now c.read_time.new.self _ c.read_time.ensures read in
+    let had : _ = mutexes.later c.args.log.now c.args.number c.args.self.now c.read_time.new.self c.args.places.now _
+    c.read_time.ensures has in
+    let is : _ = c.in_ok-id.ensures.mutexes (addresses_of had.before) had.knows in
     reads c.args.log.now c.args.number c.read_time.new.self c.read.new.self c.put.new.self c.in-Some.record c.in_ok-id.id
-    c.in-Some.ensures c.read.ensures.grown c.in_ok-id.ensures.thread c.in_ok-id.ensures.few (c.in_ok-id.ensures.about was.mutexes)
+    c.in-Some.ensures c.read.ensures.grown c.in_ok-id.ensures.thread c.in_ok-id.ensures.few
+    (mutexes.has-id had.before c.read.new.self c.read.new.places c.in-Some.record c.in_ok-id.id c.in_ok-id.ensures.about is.0 is.1)
     c.put.ensures.about c.put.ensures.rest was
 
 pub returns-clause-ended : goal.returns-clause-ended
@@ -52,17 +57,20 @@ returns-clause-levels c log knows =
     levels.kept c.args.log.now (c.args.number + 1) c.read.new.self c.put.new.self (ap (λ d. d.levels) c.put.ensures.rest)
     (ap (λ d. d.threads) c.put.ensures.rest) reads
 
-pub returns-in-None-clause-addresses : goal.returns-in-None-clause-addresses
-returns-in-None-clause-addresses c log read finds =
-    places.lacks c.args.log.now c.args.number c.args.self.now c.in-None.ensures finds
+pub returns-in-None-clause-mutexes : goal.returns-in-None-clause-mutexes
+returns-in-None-clause-mutexes c read has =
+    mutexes.lacks c.args.log.now c.args.number c.args.self.now c.args.places.now c.in-None.ensures has
 
-pub returns-clause-addresses : goal.returns-clause-addresses
-returns-clause-addresses c log read finds =
+pub returns-clause-mutexes : goal.returns-clause-mutexes
+returns-clause-mutexes c read has =
     let was : _ = later c.args.log.now c.args.number c.args.self.now c.read_time.new.self _ c.read_time.ensures read in
-    let found : _ = places.later c.args.log.now c.args.number c.args.self.now c.read_time.new.self _ c.read_time.ensures finds in
-    places.reads c.args.log.now c.args.number c.read_time.new.self c.read.new.self c.put.new.self c.in-Some.record c.in_ok-id.id
-    log c.in-Some.ensures c.read.ensures.grown c.in_ok-id.ensures.kept (c.in_ok-id.ensures.about was.mutexes)
-    c.in_ok-id.ensures.placed c.put.ensures.about c.put.ensures.rest was found
+    let had : _ = mutexes.later c.args.log.now c.args.number c.args.self.now c.read_time.new.self c.args.places.now _
+    c.read_time.ensures has in
+    let is : _ = c.in_ok-id.ensures.mutexes (addresses_of had.before) had.knows in
+    mutexes.reads c.args.log.now c.args.number c.read_time.new.self c.read.new.self c.put.new.self c.args.places.now
+    c.read.new.places c.in-Some.record c.in_ok-id.id c.in-Some.ensures c.read.ensures.grown
+    (mutexes.has-id had.before c.read.new.self c.read.new.places c.in-Some.record c.in_ok-id.id c.in_ok-id.ensures.about is.0 is.1)
+    c.put.ensures.about c.put.ensures.rest was had is.0 is.1
 
 pub returns-in-None-clause-meant : goal.returns-in-None-clause-meant
 returns-in-None-clause-meant c log read has means =
@@ -88,16 +96,21 @@ returns-clause-threads c has =
     threads.kept c.args.log.now (c.args.number + 1) c.read.new.self c.put.new.self (ap (λ d. d.threads) c.put.ensures.rest) reads
 
 pub returns-in-None-clause-kinds : goal.returns-in-None-clause-kinds
-returns-in-None-clause-kinds c read knows = kinds.lacks c.args.log.now c.args.number c.args.self.now c.in-None.ensures knows
+returns-in-None-clause-kinds c read has knows =
+    kinds.lacks c.args.log.now c.args.number c.args.self.now c.in-None.ensures knows
 
 pub returns-clause-kinds : goal.returns-clause-kinds
-returns-clause-kinds c read knows =
+returns-clause-kinds c read has knows =
     let was : _ = later c.args.log.now c.args.number c.args.self.now c.read_time.new.self _ c.read_time.ensures read in
+    let had : _ = mutexes.later c.args.log.now c.args.number c.args.self.now c.read_time.new.self c.args.places.now _
+    c.read_time.ensures has in
+    let is : _ = c.in_ok-id.ensures.mutexes (addresses_of had.before) had.knows in
     let known : _ = kinds.later c.args.log.now c.args.number c.args.self.now c.read_time.new.self
     (ap (λ d. d.of_record) c.read_time.ensures) (ap (λ d. d.mutexes) c.read_time.ensures) knows in
     kinds.reads c.args.log.now c.args.number c.read_time.new.self c.read.new.self c.put.new.self c.in-Some.record c.in_ok-id.id
-    c.in-Some.ensures c.read.ensures.grown.about (c.in_ok-id.ensures.about was.mutexes) c.in_ok-id.ensures.kinds
-    c.put.ensures.about (ap (λ d. d.mutexes) c.put.ensures.rest) was known
+    c.in-Some.ensures c.read.ensures.grown.about
+    (mutexes.has-id had.before c.read.new.self c.read.new.places c.in-Some.record c.in_ok-id.id c.in_ok-id.ensures.about is.0 is.1)
+    (c.in_ok-id.ensures.kinds had.before had.knows) c.put.ensures.about (ap (λ d. d.mutexes) c.put.ensures.rest) was known
 
 pub returns-in_err-id-clause-above : goal.returns-in_err-id-clause-above
 returns-in_err-id-clause-above c =
