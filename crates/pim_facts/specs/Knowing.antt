@@ -27,11 +27,11 @@ family_by (protocols.Protect _) = families.Protect
 abbrev pub kind_said : Event → Option MutexKind
 kind_said event = option_and_then (λ mutex. mutex.kind) (mutex_of event)
 
--- what a record says that a mutex is, if it is about this one and says it
+-- what a mutex is by a record, if that is about it and says it
 abbrev pub kind_by : Ids → ℕ → Record → Option MutexKind
 kind_by ids m r = if option_map_or (λ id. id == m) (id_of ids r.number) false then kind_said r.event else None
 
--- what the first of these records says that says what a mutex is
+-- what a mutex is by the first of these records that is about it and says it
 abbrev pub first_kind : Ids → ℕ → List Record → Option MutexKind
 first_kind ids m [] = None
 first_kind ids m (r ∷ before) = option_or (first_kind ids m before) (kind_by ids m r)
@@ -42,7 +42,7 @@ pub record Knowledge : Type 0 where
   pub ceiling : ℕ
   pub is_recursive : Bool
 
--- what is known of it by a record that says what it is; nothing if there is none
+-- what is known by a record that says what a mutex is; nothing if there is none
 abbrev pub known_by : Option MutexKind → Knowledge
 known_by None = record { family = None; ceiling = 0; is_recursive = false }
 known_by (Some kind) = record {
@@ -51,13 +51,13 @@ known_by (Some kind) = record {
   is_recursive = kind.is_recursive;
 }
 
--- what a mutex has of that; nothing if there is none
+-- what is known of a mutex, if there is one
 abbrev pub known_of : Option LoggedMutex → Knowledge
 known_of None = known_by None
 known_of (Some mutex) =
     record { family = mutex.family; ceiling = mutex.ceiling; is_recursive = mutex.is_recursive }
 
--- and the one with a number
+-- what is known of the mutex with a number
 abbrev pub known_in : Ids → ℕ → Knowledge
 known_in ids m = known_of (slice_get ids.mutexes.items m)
 
@@ -71,7 +71,7 @@ pub record KnowsBelow (end : ℕ) (bytes : List ℕ) (ids : Ids) : Type 0 where
 abbrev pub KnowsMutexes : Ids → List ℕ → Type 0
 KnowsMutexes ids bytes = KnowsBelow (end_of (header_of bytes)) bytes ids
 
--- what is known of a mutex once a record said this, if it says something: what was known before, if it was
+-- what is known of a mutex once a record said this of it: what was known before, if its protocol was
 abbrev pub learned : Option MutexKind → Knowledge → Knowledge
 learned said known = if is_some known.family then known else known_by said
 

@@ -12,7 +12,7 @@ use Rattle.pim_facts.specs.Naming.{AreBelow, is_begin}
 use Rattle.pim_facts.specs.declared.ids.Ids.{Ids}
 use Rattle.pim_facts.specs.declared.ids.LoggedThread.{LoggedThread}
 
--- the level with which a thread begins by its THREAD; a policy that is kept is another than SCHED_FIFO
+-- the level with which a thread begins by its THREAD: that of the priority, 0 if this keeps the policy
 abbrev pub level_begun : Event → ℕ
 level_begun (event.Thread _ priority) = level_by priority 0
 level_begun _ = 0

@@ -22,12 +22,12 @@ named_by (event.Name pthread) = Some (Pthread pthread)
 named_by (event.Priority key _) = Some key
 named_by _ = None
 
--- the last thread that began before with a task, or in this process with a pthread_t
+-- the last thread that began before with this task, or in the process with this pthread_t
 abbrev pub last_by : ℕ → List Record → ThreadKey → Option ℕ
 last_by process before (Task task) = last_begun task before
 last_by process before (Pthread pthread) = last_begun_at process pthread before
 
--- the thread that a record is about behind these, if it isn't of a mutex: its own if it begins, or the last one that it names
+-- the thread that a record is about behind these, if it isn't of a mutex: its own, if that begins, or the one that it names
 abbrev pub thread_by : Record → List Record → Option ℕ
 thread_by r before =
     if is_begin r.event then Some r.thread else option_and_then (last_by r.process before) (named_by r.event)
