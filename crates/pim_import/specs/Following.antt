@@ -6,6 +6,10 @@ use Rattle.pim_log.specs.Headers.{header_of, end_of}
 use Rattle.pim_facts.specs.Covering.{Covers, HasFewThreads}
 use Rattle.pim_facts.specs.Ending.{EndsAt}
 use Rattle.pim_facts.specs.Giving.{HasLevels}
+use Rattle.pim_facts.specs.Addresses.{FindsMutexes}
+use Rattle.pim_facts.specs.Knowing.{KnowsMutexes}
+use Rattle.pim_facts.specs.Logged.{HasThreads}
+use Rattle.pim_facts.specs.Meaning.{MeansThreads}
 use Rattle.pim_facts.specs.Placing.{FindsByAddress}
 use Rattle.pim_facts.specs.Shown.{shown_in}
 use Rattle.pim_facts.specs.declared.fact.Fact.{Fact}
@@ -236,12 +240,17 @@ pub record KeepsThoseOfLog (bytes : List ℕ) (sources : Sources) (is_all : Bool
   pub added : last.added ≡ length sources.requests.list.items
   pub keeps : KeepsThoseOf is_all (room_of bytes sources) (facts_of sources (last ∷ before)) sections
 
--- What is found first is that of a log: whom each record is about, a mutex at its address, no thread with a number above
--- 2 ^ 22, which levels it has, when it ended, who has a mutex next, and the requests that the log lacks, which its calls or
--- these waits show; those of calls whose begin is known are all.
+-- What is found first is that of a log: whom each record is about, the mutex that its process means by the address or the
+-- thread that it names, what each thread and mutex is, no thread with a number above 2 ^ 22, which levels it has, when it
+-- ended, who has a mutex next, and the requests that the log lacks, which its calls or these waits show; those of calls whose
+-- begin is known are all.
 pub record AreOfLog (bytes : List ℕ) (waits : List Wait) (sources : Sources) : Type 0 where
   pub covers : Covers sources.ids bytes
   pub addresses : FindsByAddress sources.ids bytes
+  pub mutexes : FindsMutexes sources.ids bytes
+  pub meant : MeansThreads sources.ids bytes
+  pub threads : HasThreads sources.ids bytes
+  pub kinds : KnowsMutexes sources.ids bytes
   pub few : HasFewThreads sources.ids
   pub levels : HasLevels bytes sources.ids.levels
   pub ended : EndsAt bytes sources.ids.ended

@@ -7,6 +7,10 @@ returns-clause-of_log c is =
     record {
       covers = covers;
       addresses = c.in-Ok.ensures.addresses is;
+      mutexes = c.in-Ok.ensures.mutexes is;
+      meant = c.in-Ok.ensures.meant is;
+      threads = c.in-Ok.ensures.threads is;
+      kinds = c.in-Ok.ensures.kinds is;
       few = c.in-Ok.ensures.few;
       levels = c.in-Ok.ensures.levels is;
       ended = c.in-Ok.ensures.ended is;
