@@ -89,19 +89,50 @@ fn add_silent(alloc: Global, log: &Log, sources: &Sources, to: &mut Asked) -> Re
     if !misses {
         return Ok(());
     }
-    let mut grants = Grants::of(alloc, log, ids)?;
-    let mut walk = Walk::new(alloc, ids)?;
     let mut asked = vec![in alloc; None; ids.threads.len()]?;
     let mut last = vec![in alloc; None; ids.threads.len()]?;
+    let mut grants = Grants::of(alloc, log, ids)?;
+    let mut walk = Walk::new(alloc, ids)?;
+    add_calls(
+        log,
+        sources,
+        &mut walk,
+        &mut grants,
+        &mut asked,
+        &mut last,
+        to,
+    )
+}
+
+/// Goes through a log, from its begin to its end, and adds the requests of its calls.
+fn add_calls(
+    log: &Log,
+    sources: &Sources,
+    walk: &mut Walk,
+    grants: &mut Grants,
+    asked: &mut Vec<Option<u32>>,
+    last: &mut Vec<Option<u64>>,
+    to: &mut Asked,
+) -> Result<(), AllocError>
+    ensures shown { (waits : List Wait) → IsLog log.now → All (IsShown log.now sources.now.ids waits) to.old.list.items →
+        OnOk result (All (IsShown log.now sources.now.ids waits) to.new.list.items) }
+    ensures calls { (waits : List Wait) → IsLog log.now → Covers sources.now.ids log.now →
+        length asked.old.items ≡ length sources.now.ids.threads.items → IsAsked log.now sources.now.ids 1 asked.old.items →
+        KnowsAll log.now sources.now.ids 1 grants.old →
+        All (HasEnded log.now sources.now.ids waits to.old.list.items) to.old.ends.items →
+        OnOk result (HasThoseOfCalls log.now sources.now.ids waits to.new.list.items) }
+    ensures kept { (request : Request) → Contains to.old.list.items request →
+        OnOk result (Contains to.new.list.items request) }
+{
     for number in 1..log.header().end() {
         let Some(record) = log.record(number) else {
             continue;
         };
-        let own = get(&last, record.thread);
-        add_call(log, ids, &grants, &mut asked, &record, own, to)?;
-        pass(log, sources, &mut walk, &mut grants, &record)?;
+        let own = get(last, record.thread);
+        add_call(log, &sources.ids, grants, asked, &record, own, to)?;
+        pass(log, sources, walk, grants, &record)?;
         if record.time.is_some() {
-            set(&mut last, record.thread, Some(number));
+            set(last, record.thread, Some(number));
         }
     }
     Ok(())

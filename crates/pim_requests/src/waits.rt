@@ -65,7 +65,6 @@ enum Place {
 }
 
 /// What is known on the way through a log.
-#[derive(Drop)]
 struct Search {
     alloc: Global,
     /// The earliest first.
@@ -86,6 +85,25 @@ struct Search {
     /// By thread where in the list the request is that was found since its last record.
     asked: Vec<Option<usize>>,
     found: Asked,
+}
+
+// Each place that drops it calls this one function, where a derived drop would be a call for each part there.
+impl Drop for Search {
+    fn drop(self) {
+        let Search {
+            alloc: _,
+            waits: _,
+            begun: _,
+            threads: _,
+            mutexes: _,
+            named: _,
+            last: _,
+            released: _,
+            pending: _,
+            asked: _,
+            found: _,
+        } = self;
+    }
 }
 
 /// Returns the requests that a log lacks and that these waits show.
@@ -109,22 +127,7 @@ pub fn asked_in(
     }
     let mut search = Search::new(alloc, sources, waits)?;
     let mut walk = Walk::new(alloc, &sources.ids)?;
-    let end = log.header().end();
-    for number in 1..end {
-        let Some(record) = log.record(number) else {
-            continue;
-        };
-        search.begin(sources, &mut walk.course, number, record.time)?;
-        let _moment = walk.read(log, sources, number);
-        search.pass(sources, &mut walk, &record)?;
-    }
-    // If the log was full, what happened behind its end isn't known.
-    let last = if log.header().lost == 0 {
-        Some(u64::MAX)
-    } else {
-        None
-    };
-    search.begin(sources, &mut walk.course, end, last)?;
+    search.follow(&mut walk, log, sources)?;
     search.end()
 }
 
@@ -162,6 +165,9 @@ impl Search {
         ensures places { (bytes : List ℕ) → IfOk result (KnowsPlaces bytes sources.now.ids 1) }
     {
         let threads = sources.ids.threads.len();
+        let last = vec![in alloc; None; threads]?;
+        let asked = vec![in alloc; None; threads]?;
+        let released = vec![in alloc; None; sources.ids.mutexes.len()]?;
         let mut sorted = Vec::from_slice(alloc, waits)?;
         sorted.sort_unstable();
         Ok(Search {
@@ -171,12 +177,38 @@ impl Search {
             threads: HashMap::new(alloc),
             mutexes: HashMap::new(alloc),
             named: 0,
-            last: vec![in alloc; None; threads]?,
-            released: vec![in alloc; None; sources.ids.mutexes.len()]?,
+            last,
+            released,
             pending: Vec::new(alloc),
-            asked: vec![in alloc; None; threads]?,
+            asked,
             found: Asked::none(alloc),
         })
+    }
+
+    /// Goes through a log, from its begin to its end.
+    fn follow(&mut self, walk: &mut Walk, log: &Log, sources: &Sources) -> Result<(), AllocError>
+        ensures waits { (waits : List Wait) → AreOfWaits sources.now.ids waits self.old →
+            OnOk result (AreOfWaits sources.now.ids waits self.new) }
+        ensures places { (waits : List Wait) → IsLog log.now → AreOfWaits sources.now.ids waits self.old →
+            KnowsPlaces log.now sources.now.ids 1 self.old →
+            OnOk result (KnowsPlaces log.now sources.now.ids (end_of (header_of log.now)) self.new) }
+    {
+        let end = log.header().end();
+        for number in 1..end {
+            let Some(record) = log.record(number) else {
+                continue;
+            };
+            self.begin(sources, &mut walk.course, number, record.time)?;
+            let _moment = walk.read(log, sources, number);
+            self.pass(sources, walk, &record)?;
+        }
+        // If the log was full, what happened behind its end isn't known.
+        let last = if log.header().lost == 0 {
+            Some(u64::MAX)
+        } else {
+            None
+        };
+        self.begin(sources, &mut walk.course, end, last)
     }
 
     /// Lets those waits begin that are earlier than this time, if the record with this number has it.
@@ -477,10 +509,17 @@ impl Search {
             IfOk result (λ asked. All (HasEnded bytes ids waits asked.list.items) asked.ends.items) }
     {
         let Search {
-            pending,
+            alloc: _,
+            waits: _,
+            begun: _,
+            threads: _,
+            mutexes: _,
+            named: _,
             last,
+            released: _,
+            pending,
+            asked: _,
             mut found,
-            ..
         } = self;
         for one in &pending {
             let Some(after) = one.before else {

@@ -1,6 +1,5 @@
-use Rattle.std.proofs.Common.{arith, rules}
+use Rattle.std.proofs.Common.{None, ap, replicate, rules, ◌∙◌}
 use Rattle.std.specs.Prelude.{Contains}
-use Rattle.std.proofs.lemmas.Grind.{common_steps}
 use Rattle.std.proofs.lemmas.List.Elements.{All-contains_itself, All-nil, All-same}
 use Rattle.std.proofs.lemmas.List.Sorted.{All-permutation}
 use Rattle.pim_requests.specs.Asked.{HasWait}
@@ -22,7 +21,8 @@ returns-clause-waits c =
 
 pub returns-clause-places : goal.returns-clause-places
 returns-clause-places c = λ bytes.
+    let many = ap (λ n. replicate n None) (c.len-threads.ensures ∙ c.args.sources.now.ids.threads.ok.0) in
     places-first bytes c.args.sources.now.ids _
-    (grind (arith, common_steps, c.len-threads.ensures, c.in_ok-vec.ensures.items_if_clones_equal (search rules)))
-    (grind (arith, common_steps, c.len-threads.ensures, c.in_ok-vec-3.ensures.items_if_clones_equal (search rules)))
+    (c.in_ok-last.ensures.items_if_clones_equal (search rules) ∙ many)
+    (c.in_ok-asked.ensures.items_if_clones_equal (search rules) ∙ many)
     c.none.ensures.list c.none.ensures.ends
