@@ -404,6 +404,10 @@ latest-more bytes ids m list new time r log has mutex put low own known = λ q k
     ]
 
 -- behind a record that isn't a grant
+pub latest-first : (bytes : List ℕ) (ids : Ids) (list : List (Option ℕ)) → KnowsLatest bytes ids 1 list
+latest-first bytes ids list = λ r m time is below lt e.
+    absurd (let above = is.has.numbered.above in omega (arith, above, below))
+
 pub latest-past : (bytes : List ℕ) (ids : Ids) (list : List (Option ℕ)) (r : Record) → IsLog bytes → IsIn bytes r →
     ((m : ℕ) → IsGrant r.event → id_of ids r.number ≡ Some m → ⊥) → KnowsLatest bytes ids r.number list →
     KnowsLatest bytes ids (r.number + 1) list
@@ -527,6 +531,10 @@ those-none bytes ids waits list misses = λ m call grant silent.
     absurd (misses m call grant silent.ends.numbered.below silent)
 
 -- behind a record with which no call ends that misses its request
+pub misses-first : (bytes : List ℕ) (ids : Ids) → MissesNone bytes ids 1
+misses-first bytes ids = λ m end grant below silent.
+    let above = silent.ends.numbered.above in omega (arith, above, below)
+
 pub misses-more : (bytes : List ℕ) (ids : Ids) (r : Record) → IsLog bytes → IsIn bytes r →
     ((m : ℕ) (grant : Record) → WaitedSilently bytes ids m r grant → ⊥) → MissesNone bytes ids r.number →
     MissesNone bytes ids (r.number + 1)

@@ -1,10 +1,26 @@
-use Rattle.std.proofs.Common.{◌≡◌, ◌+◌, ◌≤◌, false, ap, inr, subst, sym, ◌∙◌, arith}
+use Rattle.std.proofs.Common.{◌≡◌, ◌+◌, ◌≤◌, None, false, ap, inr, length, subst, sym, ◌∙◌, arith, rules}
 use Rattle.std.specs.Prelude.{IsTrue}
+use Rattle.std.proofs.lemmas.List.{length-replicate}
 use Rattle.pim_log.specs.Headers.{end_of, header_of}
 use Rattle.pim_requests.specs.Granting.{IsAsked, KnowsLatest, MissesNone}
-use Rattle.pim_requests.proofs.Completing.{asked-on, latest-on, misses-all, misses-more, misses-on}
+use Rattle.pim_requests.proofs.Completing.{asked-first, asked-on, latest-first, latest-on, misses-all}
+use Rattle.pim_requests.proofs.Completing.{misses-first, misses-more, misses-on}
 use Rattle.pim_requests.proofs.Showing.{is-in, number-is}
 use Rattle.pim_requests.proofs.requests.misses_some.Goals as goal
+
+pub loop-number-init : goal.loop-number-init
+loop-number-init c =
+    let bytes = c.args.log.now in
+    let ids = c.args.ids.now in
+    let asked = c.in_ok-asked.ensures.items_if_clones_equal (search rules) in
+    let latest = c.in_ok-latest.ensures.items_if_clones_equal (search rules) in
+    record {
+      asked_room = ap length asked ∙ length-replicate c.len.result None ∙ c.len.ensures ∙ ids.threads.ok.0;
+      latest_room = ap length latest ∙ length-replicate c.len-2.result None ∙ c.len-2.ensures ∙ ids.mutexes.ok.0;
+      asked = λ log covers. asked-first bytes ids _ _ asked;
+      latest = λ log. latest-first bytes ids _;
+      none = λ log covers. misses-first bytes ids;
+    }
 
 pub loop-number-preserved-in_default : goal.loop-number-preserved-in_default
 loop-number-preserved-in_default c =
