@@ -64,6 +64,17 @@ enum Place {
     Later,
 }
 
+/// What the records so far name.
+#[derive(Drop)]
+struct Names {
+    /// By the kernel's number the thread that has it.
+    threads: HashMap<u32, u32>,
+    /// By process and address the mutex that is there. One that processes share is of no process.
+    mutexes: HashMap<(Option<u32>, u64), u32>,
+    /// How many mutexes were named so far. They have the numbers from 1 on in this order.
+    named: u32,
+}
+
 /// What is known on the way through a log.
 struct Search {
     alloc: Global,
@@ -71,12 +82,7 @@ struct Search {
     waits: Vec<Wait>,
     /// How many of them have begun.
     begun: usize,
-    /// By the kernel's number the thread that has it.
-    threads: HashMap<u32, u32>,
-    /// By process and address the mutex that is there. One that processes share is of no process.
-    mutexes: HashMap<(Option<u32>, u64), u32>,
-    /// How many mutexes were named so far. They have the numbers from 1 on in this order.
-    named: u32,
+    names: Names,
     /// By thread the number of its last record, if it has one.
     last: Vec<Option<u64>>,
     /// By mutex the number of its last RELEASE, if it has one.
@@ -94,9 +100,7 @@ impl Drop for Search {
             alloc: _,
             waits: _,
             begun: _,
-            threads: _,
-            mutexes: _,
-            named: _,
+            names: _,
             last: _,
             released: _,
             pending: _,
@@ -174,9 +178,11 @@ impl Search {
             alloc,
             waits: sorted,
             begun: 0,
-            threads: HashMap::new(alloc),
-            mutexes: HashMap::new(alloc),
-            named: 0,
+            names: Names {
+                threads: HashMap::new(alloc),
+                mutexes: HashMap::new(alloc),
+                named: 0,
+            },
             last,
             released,
             pending: Vec::new(alloc),
@@ -253,7 +259,7 @@ impl Search {
         ensures places { (bytes : List ℕ) → KnowsPlaces bytes sources.now.ids number self.old →
             OnOk result (KnowsPlaces bytes sources.now.ids number self.new) }
     {
-        let Some((thread, mutex)) = self.find(sources, wait) else {
+        let Some((thread, mutex)) = self.names.find(&sources.ids, wait) else {
             return Ok(());
         };
         let owner = course.mutex(mutex).owner;
@@ -279,24 +285,6 @@ impl Search {
             before,
         })?;
         Ok(())
-    }
-
-    /// Returns the thread of a wait and the mutex that it is for, if the records so far name them.
-    fn find(&self, sources: &Sources, wait: &Wait) -> Option<(u32, u32)>
-        ensures { IfSome result (λ found. IsWaitOf sources.now.ids wait.now found.0 found.1) }
-    {
-        let thread = *self.threads.get(&wait.task)?;
-        let process = sources.ids.threads.get(thread as usize)?.process;
-        let mutex = match self.mutexes.get(&(process, wait.address)) {
-            Some(own) => own,
-            None => self.mutexes.get(&(None, wait.address))?,
-        };
-        // The maps have only those that a wait is of, which isn't proved of them.
-        if is_of(wait, &sources.ids, thread, *mutex) {
-            Some((thread, *mutex))
-        } else {
-            None
-        }
     }
 
     /// Returns the number of the record before the last RELEASE of a mutex, if that is since the thread's last record.
@@ -364,7 +352,8 @@ impl Search {
             OnOk result (KnowsPlaces bytes sources.now.ids (record.now.number + 1) self.new) }
     {
         let id = sources.ids.of_record(record.number);
-        self.learn(sources, record, id)?;
+        let is_first = get(&self.last, record.thread).is_none();
+        self.names.learn(&sources.ids, record, id, is_first)?;
         self.settle(sources, &mut walk.course, record, id)?;
         self.end_wait(record)?;
         self.keep_last(record, id);
@@ -405,39 +394,6 @@ impl Search {
         set(&mut self.asked, record.thread, None);
         self.found.set_place(place, record.place);
         self.found.ends.push(record.number)?;
-        Ok(())
-    }
-
-    /// Learns who has the number of a thread, and which mutex is at an address.
-    fn learn(
-        &mut self,
-        sources: &Sources,
-        record: &Record,
-        id: Option<u32>,
-    ) -> Result<(), AllocError>
-        ensures waits { self.new.waits ≡ self.old.waits }
-        ensures pending { self.new.pending ≡ self.old.pending }
-        ensures found { self.new.found ≡ self.old.found }
-        ensures asked { self.new.asked ≡ self.old.asked }
-        ensures last { self.new.last ≡ self.old.last }
-    {
-        if get(&self.last, record.thread).is_none() {
-            self.threads.insert(record.task, record.thread)?;
-        }
-        let Some(mutex) = id else {
-            return Ok(());
-        };
-        if record.event.mutex().is_none() || mutex <= self.named {
-            return Ok(());
-        }
-        self.named = mutex;
-        let Some(is) = sources.ids.mutex(mutex) else {
-            return Ok(());
-        };
-        if is.process.is_none() {
-            let _before = self.mutexes.remove(&(Some(record.process), is.address));
-        }
-        self.mutexes.insert((is.process, is.address), mutex)?;
         Ok(())
     }
 
@@ -500,7 +456,7 @@ impl Search {
     }
 
     /// Adds the requests of the waits that last at the end, and returns all.
-    fn end(self) -> Result<Asked, AllocError>
+    fn end(mut self) -> Result<Asked, AllocError>
         ensures shown { (bytes : List ℕ) (ids : Ids) (waits : List Wait) (number : ℕ) →
             end_of (header_of bytes) ≤ number → AreOfWaits ids waits self → KnowsPlaces bytes ids number self →
             IfOk result (λ asked. All (IsOfWait bytes ids waits) asked.list.items) }
@@ -508,20 +464,8 @@ impl Search {
             end_of (header_of bytes) ≤ number → AreOfWaits ids waits self → KnowsPlaces bytes ids number self →
             IfOk result (λ asked. All (HasEnded bytes ids waits asked.list.items) asked.ends.items) }
     {
-        let Search {
-            alloc: _,
-            waits: _,
-            begun: _,
-            threads: _,
-            mutexes: _,
-            named: _,
-            last,
-            released: _,
-            pending,
-            asked: _,
-            mut found,
-        } = self;
-        for one in &pending {
+        let mut found = std::mem::replace(&mut self.found, Asked::none(self.alloc));
+        for one in &self.pending {
             let Some(after) = one.before else {
                 continue;
             };
@@ -530,12 +474,60 @@ impl Search {
                 ..one.request
             };
             // Each one is, which isn't proved of the search.
-            if !is_behind(&request, &last) {
+            if !is_behind(&request, &self.last) {
                 continue;
             }
             found.list.push(request)?;
         }
         Ok(found)
+    }
+}
+
+impl Names {
+    /// Returns the thread of a wait and the mutex that it is for, if the records so far name them.
+    fn find(&self, ids: &Ids, wait: &Wait) -> Option<(u32, u32)>
+        ensures { IfSome result (λ found. IsWaitOf ids.now wait.now found.0 found.1) }
+    {
+        let thread = *self.threads.get(&wait.task)?;
+        let process = ids.threads.get(thread as usize)?.process;
+        let mutex = match self.mutexes.get(&(process, wait.address)) {
+            Some(own) => own,
+            None => self.mutexes.get(&(None, wait.address))?,
+        };
+        // The maps have only those that a wait is of, which isn't proved of them.
+        if is_of(wait, ids, thread, *mutex) {
+            Some((thread, *mutex))
+        } else {
+            None
+        }
+    }
+
+    /// Learns who has the number of a thread, if this is its first record, and which mutex is at an address.
+    fn learn(
+        &mut self,
+        ids: &Ids,
+        record: &Record,
+        id: Option<u32>,
+        is_first: bool,
+    ) -> Result<(), AllocError> {
+        if is_first {
+            self.threads.insert(record.task, record.thread)?;
+        }
+        let Some(mutex) = id else {
+            return Ok(());
+        };
+        if record.event.mutex().is_none() || mutex <= self.named {
+            return Ok(());
+        }
+        self.named = mutex;
+        let Some(is) = ids.mutex(mutex) else {
+            return Ok(());
+        };
+        if is.process.is_none() {
+            let _before = self.mutexes.remove(&(Some(record.process), is.address));
+        }
+        self.mutexes.insert((is.process, is.address), mutex)?;
+        Ok(())
     }
 }
 

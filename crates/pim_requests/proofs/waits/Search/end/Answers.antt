@@ -1,19 +1,24 @@
-use Rattle.std.proofs.Common.{refl, subst, sym}
+use Rattle.std.proofs.Common.{ap, refl, subst, sym}
 use Rattle.std.specs.Prelude.{Contains}
 use Rattle.std.proofs.lemmas.List.Elements.{All-push, All-same, Contains-append_left}
 use Rattle.pim_requests.specs.Asked.{IsOfWait}
+use Rattle.pim_requests.specs.Searching.{KnowsEnds}
 use Rattle.pim_requests.proofs.Placing.{all-ended, all-placed, last-of-wait}
 use Rattle.pim_requests.proofs.Completing.{still-ended}
 use Rattle.pim_requests.proofs.Searched.{pending-in}
 use Rattle.pim_requests.proofs.waits.Search.end.Goals as goal
 
 pub loop-one-init : goal.loop-one-init
-loop-one-init c = record {
-  shown = λ bytes ids waits number end are knows. all-placed bytes ids waits number c.args.self _ refl end are.1.1 knows;
-  ends = λ bytes ids waits number end are knows.
-      all-ended bytes ids waits number _ _ (all-placed bytes ids waits number c.args.self _ refl end are.1.1 knows)
-      knows.ends;
-}
+loop-one-init c =
+    let was = c.replace-found.ensures.value in
+    record {
+      shown = λ bytes ids waits number end are knows.
+          all-placed bytes ids waits number c.args.self _ (ap (λ f. f.list.items) was) end are.1.1 knows;
+      ends = λ bytes ids waits number end are knows.
+          all-ended bytes ids waits number _ _
+          (all-placed bytes ids waits number c.args.self _ (ap (λ f. f.list.items) was) end are.1.1 knows)
+          (subst (λ f. KnowsEnds bytes number f) (sym was) knows.ends);
+    }
 
 pub loop-one-preserved : goal.loop-one-preserved
 loop-one-preserved c = record {

@@ -1,3 +1,4 @@
+use Rattle.std.proofs.Common.{refl}
 use Rattle.pim_requests.proofs.Placing.{places-kept, places-on}
 use Rattle.pim_requests.proofs.Searched.{kept}
 use Rattle.pim_requests.proofs.waits.Search.pass.Goals as goal
@@ -8,19 +9,15 @@ returns-clause-waits c = λ waits are.
     kept ids waits c.end_wait.new.self c.keep_last.new.self c.keep_last.ensures.waits c.keep_last.ensures.pending
     c.keep_last.ensures.found
     (c.in_ok-end_wait.ensures.waits ids waits
-    (c.in_ok-settle.ensures.waits waits
-    (kept ids waits c.args.self.now c.learn.new.self c.learn.ensures.waits c.learn.ensures.pending
-    c.learn.ensures.found are)))
+    (c.in_ok-settle.ensures.waits waits are))
 
 pub returns-clause-places : goal.returns-clause-places
 returns-clause-places c = λ bytes waits log has are knows.
     let ids = c.args.sources.now.ids in
     let r = c.args.record.now in
     let settled =
-    c.in_ok-settle.ensures.places bytes waits log has
-    (kept ids waits c.args.self.now c.learn.new.self c.learn.ensures.waits c.learn.ensures.pending c.learn.ensures.found are)
-    (places-kept bytes ids r.number c.args.self.now c.learn.new.self c.learn.ensures.last c.learn.ensures.asked
-    c.learn.ensures.found knows) in
+    c.in_ok-settle.ensures.places bytes waits log has are
+    (places-kept bytes ids r.number c.args.self.now _ refl refl refl knows) in
     places-on bytes ids r c.settle.new.self c.end_wait.new.self c.keep_last.new.self log has c.end_wait.ensures.last
     c.end_wait.ensures.size (c.in_ok-end_wait.ensures.places bytes log has settled.asked)
     (c.in_ok-end_wait.ensures.ends bytes settled.asked has settled.ends) c.keep_last.ensures.last
