@@ -19,7 +19,8 @@ use Rattle.pim_facts.specs.Levels.{id_of}
 use Rattle.pim_facts.specs.Naming.{IsNamed, Names, last_begun, named_task}
 use Rattle.pim_facts.specs.declared.ids.Ids.{Ids}
 use Rattle.pim_facts.proofs.Naming.{last-there, still-named}
-use Rattle.pim_course.proofs.NextOwning.{AsRead, begin-found, if-some, is-not, lacks-step, next-there, record-step}
+use Rattle.pim_course.proofs.NextOwning.{AsRead, and-then-cond, begin-found, if-some, is-not, lacks-step, next-there}
+use Rattle.pim_course.proofs.NextOwning.{record-step}
 use Rattle.pim_course.specs.AskedOwners.{AreTimed, FindsAsked, FindsAskedFrom, HasAsked, IsAsked, IsAskedBy, IsTimed}
 use Rattle.pim_course.specs.AskedOwners.{KnowsCalls}
 use Rattle.pim_course.specs.AskedOwners.{asked_task, begin_of, begun_before, begun_or_later, first_timed, granted_soonest}
@@ -74,11 +75,6 @@ same-grant ids m (r ∷ rs) g p timed is first grants-p =
             | false ↦ λ later. same-grant ids m rs g p timed.1 found later grants-p
           ] first
     ] refl is
-
-and-then-cond : {A B : Type 0} (f : A → Option B) (b : Bool) (x : A) (o : Option A) →
-    option_and_then f (cond b (Some x) o) ≡ cond b (f x) (option_and_then f o)
-and-then-cond f true x o = refl
-and-then-cond f false x o = refl
 
 not-eqb : (n m : ℕ) → n ≢ m → (n == m) ≡ false
 not-eqb n m other =

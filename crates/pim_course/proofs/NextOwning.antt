@@ -1,10 +1,12 @@
 -- What is found of the records of a log from one on, if it is found of those behind it.
 use Rattle.std.proofs.Common.{◌≡◌, ◌≢◌, ℕ, zero, suc, ◌+◌, ◌==◌, ◌&&◌, not, nat_eq, ◌<◌, ◌≤◌, ◌^◌, Bool, true, false, cond}
-use Rattle.std.proofs.Common.{List, [], ◌∷◌, length, get_or, replicate, refl, sym, ap, subst, ◌∙◌, arith, inl, inr, Option}
-use Rattle.std.proofs.Common.{Some, None}
-use Rattle.std.proofs.lemmas.Bool.{cases_eq}
-use Rattle.std.proofs.lemmas.List.{get_or-replicate, length-replicate}
+use Rattle.std.proofs.Common.{List, [], ◌∷◌, length, get_or, set, replicate, refl, sym, ap, subst, ◌∙◌, arith, inl, inr}
+use Rattle.std.proofs.Common.{Option, Some, None, eq-eqb}
+use Rattle.std.proofs.lemmas.Bool.{cases_eq, ne_eqb}
+use Rattle.std.proofs.lemmas.Grind.{get_or-set_at}
+use Rattle.std.proofs.lemmas.List.{get_or-replicate, get_or-set_other, length-replicate, length-set}
 use Rattle.std.specs.Prelude.{IfSome, find, slice_get}
+use Rattle.std.specs.Bool.{then_some}
 use Rattle.std.specs.Option.{UnwrapsOrElse, option_and_then, option_eq, option_map}
 use Rattle.pim_log.specs.Headers.{header_of, end_of}
 use Rattle.pim_log.specs.Logs.{IsNumbered, IsRecord}
@@ -13,10 +15,12 @@ use Rattle.pim_log.specs.declared.record.Record.{Record}
 use Rattle.pim_facts.specs.Levels.{id_of}
 use Rattle.pim_facts.specs.Naming.{IsAt}
 use Rattle.pim_facts.specs.declared.ids.Ids.{Ids}
+use Rattle.pim_course.specs.AskedOwners.{next_other}
 use Rattle.pim_course.specs.Kept.{kept_by, kept_of}
 use Rattle.pim_course.specs.NextOwners.{AreFrom, CoversThose, Finds, FindsFrom, HasFound, HasRoom, IsKeepable, IsKept, Knows}
-use Rattle.pim_course.specs.NextOwners.{granted_first, is_refused, is_that, next_granted, next_owner, release_call}
-use Rattle.pim_course.specs.NextOwners.{release_kept}
+use Rattle.pim_course.specs.NextOwners.{granted_by, granted_first, grants, is_call, is_granted, is_of_release, is_refused}
+use Rattle.pim_course.specs.NextOwners.{is_release_failed, is_that, next_granted, next_owner, refused_by, release_call}
+use Rattle.pim_course.specs.NextOwners.{release_kept, set_at}
 use Rattle.pim_course.specs.declared.next_owners.Coming.{Coming}
 use Rattle.pim_course.specs.declared.next_owners.Kept.{Kept}
 use Rattle.pim_course.specs.declared.next_owners.Kept.TheVariants.{Owner, Refused}
@@ -179,32 +183,162 @@ pub is-not : (o : Option ℕ) (n : ℕ) → option_eq nat_eq o (Some n) ≡ fals
 is-not None n e = refl
 is-not (Some k) n e = e
 
-none-and : (b : Bool) (next : ℕ) → None ≡ cond (b && false) (Some next) None
-none-and true next = refl
-none-and false next = refl
+same-that : (o : Option ℕ) (n : ℕ) → option_eq nat_eq o (Some n) ≡ is_that o n
+same-that None n = refl
+same-that (Some k) n = refl
 
--- a thread that calls something before it is granted the mutex isn't the next owner
-not-next : (ids : Ids) (m t next : ℕ) (behind : List Record) (first : Option ℕ) → next_granted ids m behind ≡ Some next →
-    granted_first ids next behind ≡ first → is_that first m ≡ false → None ≡ next_owner ids m t behind
-not-next ids m t next behind first granted is not-that =
-    let that : is_that (granted_first ids next behind) m ≡ false = ap (λ o. is_that o m) is ∙ not-that in
-    none-and (not (next == t)) next
-    ∙ sym (ap (λ b. cond (not (next == t) && b) (Some next) None) that)
-    ∙ sym (ap (option_and_then (λ k. cond (not (k == t) && is_that (granted_first ids k behind) m) (Some k) None)) granted)
+-- the next owner is another thread that is granted the mutex next, if it calls nothing before
+owner-of-other : (g : ℕ → Bool) (t : ℕ) (o : Option ℕ) →
+    option_and_then (λ k. cond (not (k == t) && g k) (Some k) None) o
+    ≡ option_and_then (λ k. cond (g k) (Some k) None) (option_and_then (λ k. cond (k == t) None (Some k)) o)
+owner-of-other g t None = refl
+owner-of-other g t (Some k) =
+    elim (k == t) as
+    (λ b. cond (not b && g k) (Some k) None ≡ option_and_then (λ k. cond (g k) (Some k) None) (cond b None (Some k)))
+    [ true ↦ refl | false ↦ refl ]
 
--- so it is by what is known
-pub not-next-known : (ids : Ids) (m t next : ℕ) (behind : List Record) (coming : Coming) (first : Option ℕ) →
-    HasRoom ids coming → Knows ids behind coming → CoversThose ids behind → m < length ids.mutexes.items →
-    UnwrapsOrElse (slice_get coming.owners.items m) (λ o. o ≡ None) (Some next) →
-    UnwrapsOrElse (slice_get coming.granted.items next) (λ o. o ≡ None) first → option_eq nat_eq first (Some m) ≡ false →
+some-if : (b : Bool) (n : ℕ) → then_some b n ≡ cond b (Some n) None
+some-if true n = refl
+some-if false n = refl
+
+other-is : (t : ℕ) (o : Option ℕ) (n : ℕ) → option_and_then (λ k. cond (k == t) None (Some k)) o ≡ Some n → o ≡ Some n
+other-is t None n e = cc
+other-is t (Some k) n e =
+    elim (k == t) as (λ b. cond b None (Some k) ≡ Some n → Some k ≡ Some n) [ true ↦ λ e. cc | false ↦ λ e. e ] e
+
+-- so nobody is if there is no such thread
+pub no-owner : (ids : Ids) (m t : ℕ) (behind : List Record) → None ≡ next_other ids m t behind →
     None ≡ next_owner ids m t behind
-not-next-known ids m t next behind coming first room knows covers below owner granted not-that =
-    let is-owner : next_granted ids m behind ≡ Some next =
-    sym (knows.owners m (omega (arith, room.owners))) ∙ sym (got coming.owners.items m (Some next) owner) in
-    let there = next-there ids m behind next covers is-owner in
-    not-next ids m t next behind first is-owner
-    (sym (knows.granted next (omega (arith, room.granted, there.2))) ∙ sym (got coming.granted.items next first granted))
-    (is-not first m not-that)
+no-owner ids m t behind none =
+    ap (option_and_then (λ k. cond (is_that (granted_first ids k behind) m) (Some k) None)) none
+    ∙ sym (owner-of-other (λ k. is_that (granted_first ids k behind) m) t (next_granted ids m behind))
+
+-- what it is granted next is known
+pub owner-known : (ids : Ids) (m t next : ℕ) (behind : List Record) (coming : Coming) (first : Option ℕ) (is : Bool) →
+    HasRoom ids coming → Knows ids behind coming → CoversThose ids behind → Some next ≡ next_other ids m t behind →
+    first ≡ get_or coming.granted.items next None → is ≡ option_eq nat_eq first (Some m) →
+    then_some is next ≡ next_owner ids m t behind
+owner-known ids m t next behind coming first is room knows covers other got-first same =
+    let there = next-there ids m behind next covers (other-is t (next_granted ids m behind) next (sym other)) in
+    let known : first ≡ granted_first ids next behind =
+    got-first ∙ knows.granted next (omega (arith, room.granted, there.2)) in
+    some-if is next
+    ∙ ap (λ b. cond b (Some next) None) (same ∙ same-that first m ∙ ap (λ o. is_that o m) known)
+    ∙ ap (option_and_then (λ k. cond (is_that (granted_first ids k behind) m) (Some k) None)) other
+    ∙ sym (owner-of-other (λ k. is_that (granted_first ids k behind) m) t (next_granted ids m behind))
+
+pub and-then-cond : {A B : Type 0} (f : A → Option B) (b : Bool) (x : A) (o : Option A) →
+    option_and_then f (cond b (Some x) o) ≡ cond b (f x) (option_and_then f o)
+and-then-cond f true x o = refl
+and-then-cond f false x o = refl
+
+map-cond : {A B : Type 0} (f : A → B) (b : Bool) (x : A) (o : Option A) →
+    option_map f (cond b (Some x) o) ≡ cond b (Some (f x)) (option_map f o)
+map-cond f true x o = refl
+map-cond f false x o = refl
+
+-- a list in which something was put at a place, or nothing
+pub put-long : {X : Type 0} (xs ys : List X) (i : ℕ) (v : X) (b : Bool) → ys ≡ cond b (set xs i v) xs → length ys ≡ length xs
+put-long xs ys i v true e = ap length e ∙ length-set xs i v
+put-long xs ys i v false e = ap length e
+
+put-there : (xs ys : List (Option ℕ)) (i k : ℕ) (v : Option ℕ) (b : Bool) → ys ≡ cond b (set xs i v) xs → k < length xs →
+    get_or ys k None ≡ cond (b && i == k) v (get_or xs k None)
+put-there xs ys i k v true e lt = elim (cases_eq k i) [
+  | inl same ↦
+      ap (λ l. get_or l k None) e ∙ get_or-set_at xs i k v None same (omega (arith, same, lt))
+      ∙ sym (ap (λ b. cond b v (get_or xs k None)) (eq-eqb i k (sym same)))
+  | inr other ↦
+      ap (λ l. get_or l k None) e ∙ get_or-set_other xs i k v None other
+      ∙ sym (ap (λ b. cond b v (get_or xs k None)) (ne_eqb i k (λ e. other (sym e))))
+]
+put-there xs ys i k v false e lt = ap (λ l. get_or l k None) e
+
+-- so it is if no place is given
+pub put-at-long : {X : Type 0} (xs ys : List X) (o : Option ℕ) (v : X) (b : Bool) → ys ≡ cond b (set_at o v xs) xs →
+    length ys ≡ length xs
+put-at-long xs ys (Some i) v b e = put-long xs ys i v b e
+put-at-long xs ys None v true e = ap length e
+put-at-long xs ys None v false e = ap length e
+
+put-at : (xs ys : List (Option ℕ)) (o : Option ℕ) (k : ℕ) (v : Option ℕ) (b : Bool) → ys ≡ cond b (set_at o v xs) xs →
+    k < length xs → get_or ys k None ≡ cond (b && is_that o k) v (get_or xs k None)
+put-at xs ys (Some i) k v b e lt = put-there xs ys i k v b e lt
+put-at xs ys None k v true e lt = ap (λ l. get_or l k None) e
+put-at xs ys None k v false e lt = ap (λ l. get_or l k None) e
+
+-- what was learned of a record of a mutex, before that of the calls
+pub record AreLearned (r : Record) (mutex : Option ℕ) (old new : Coming) : Type 0 where
+  pub owners : new.owners.items ≡
+      cond (is_granted r.event) (set_at mutex (Some r.thread) old.owners.items) old.owners.items
+  pub granted : new.granted.items ≡ cond (is_call r.event)
+      (set old.granted.items r.thread (cond (is_granted r.event) mutex None)) old.granted.items
+  pub failing : new.failing.items ≡ cond (is_of_release r.event)
+      (set old.failing.items r.thread (cond (is_release_failed r.event) mutex None)) old.failing.items
+
+-- that of the calls changes nothing of this
+pub learned-from : (r : Record) (mutex : Option ℕ) (old mid new : Coming) →
+    mid ≡ record old { began = mid.began; beginning = mid.beginning } →
+    new.owners.items ≡ cond (is_granted r.event) (set_at mutex (Some r.thread) mid.owners.items) mid.owners.items →
+    new.granted.items ≡ cond (is_call r.event)
+    (set mid.granted.items r.thread (cond (is_granted r.event) mutex None)) mid.granted.items →
+    new.failing.items ≡ cond (is_of_release r.event)
+    (set mid.failing.items r.thread (cond (is_release_failed r.event) mutex None)) mid.failing.items →
+    AreLearned r mutex old new
+learned-from r mutex old mid new rest owners granted failing = record {
+  owners = owners
+      ∙ ap (λ (x : Coming). cond (is_granted r.event)
+      (set_at mutex (Some r.thread) x.owners.items) x.owners.items) rest;
+  granted = granted
+      ∙ ap (λ (x : Coming). cond (is_call r.event)
+      (set x.granted.items r.thread (cond (is_granted r.event) mutex None)) x.granted.items) rest;
+  failing = failing
+      ∙ ap (λ (x : Coming). cond (is_of_release r.event)
+      (set x.failing.items r.thread (cond (is_release_failed r.event) mutex None)) x.failing.items) rest;
+}
+
+-- what is known of the threads and mutexes behind one more record
+pub knows-step : (ids : Ids) (r : Record) (behind : List Record) (old new : Coming) → Knows ids behind old →
+    AreLearned r (id_of ids r.number) old new → Knows ids (r ∷ behind) new
+knows-step ids r behind old new knows are =
+    let of_granted : Option ℕ = granted_by ids r in
+    let of_failing : Option ℕ = refused_by ids r in
+    record {
+      owners = λ m lt.
+          let long = put-at-long old.owners.items new.owners.items (id_of ids r.number) (Some r.thread)
+          (is_granted r.event) are.owners in
+          let within : m < length old.owners.items = omega (arith, long, lt) in
+          put-at old.owners.items new.owners.items (id_of ids r.number) m (Some r.thread) (is_granted r.event) are.owners
+          within
+          ∙ ap (cond (grants ids m r) (Some r.thread)) (knows.owners m within)
+          ∙ sym (map-cond (λ (x : Record). x.thread) (grants ids m r) r (find (grants ids m) behind));
+      granted = λ t lt.
+          let long = put-long old.granted.items new.granted.items r.thread of_granted (is_call r.event) are.granted in
+          let within : t < length old.granted.items = omega (arith, long, lt) in
+          put-there old.granted.items new.granted.items r.thread t of_granted (is_call r.event) are.granted within
+          ∙ ap (cond (is_call r.event && r.thread == t) of_granted) (knows.granted t within)
+          ∙ sym (and-then-cond (granted_by ids) (is_call r.event && r.thread == t) r
+          (find (λ x. is_call x.event && x.thread == t) behind));
+      failing = λ t lt.
+          let long = put-long old.failing.items new.failing.items r.thread of_failing (is_of_release r.event) are.failing in
+          let within : t < length old.failing.items = omega (arith, long, lt) in
+          put-there old.failing.items new.failing.items r.thread t of_failing (is_of_release r.event) are.failing within
+          ∙ ap (cond (is_of_release r.event && r.thread == t) of_failing) (knows.failing t within)
+          ∙ sym (and-then-cond (refused_by ids) (is_of_release r.event && r.thread == t) r
+          (find (λ x. is_of_release x.event && x.thread == t) behind));
+    }
+
+-- and there is still room
+pub room-step : (ids : Ids) (r : Record) (mutex : Option ℕ) (old new : Coming) → HasRoom ids old →
+    AreLearned r mutex old new → length new.began.items ≡ length old.began.items →
+    length new.beginning.items ≡ length old.beginning.items → HasRoom ids new
+room-step ids r mutex old new room are began beginning = record {
+  owners = put-at-long old.owners.items new.owners.items mutex _ _ are.owners ∙ room.owners;
+  granted = put-long old.granted.items new.granted.items r.thread _ _ are.granted ∙ room.granted;
+  failing = put-long old.failing.items new.failing.items r.thread _ _ are.failing ∙ room.failing;
+  began = began ∙ room.began;
+  beginning = beginning ∙ room.beginning;
+}
 
 none-known : (xs : List (Option ℕ)) (n k : ℕ) → xs ≡ replicate n None → k < length xs → get_or xs k None ≡ None
 none-known xs n k e lt =

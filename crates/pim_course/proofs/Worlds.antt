@@ -1,16 +1,29 @@
 -- How the world changes as a thread or a mutex is put.
-use Rattle.std.proofs.Common.{◌≡◌, ℕ, ◌<◌, ◌≤◌, cond, List, length, get_or, set, Option, Some, None, sym, ap, ◌∙◌, inl, inr}
+use Rattle.std.proofs.Common.{◌≡◌, ℕ, zero, suc, ◌<◌, ◌≤◌, cond, List, [], ◌∷◌, length, get_or, set, Option, Some, None, sym}
+use Rattle.std.proofs.Common.{ap, ◌∙◌, inl, inr, slice_get}
 use Rattle.std.proofs.Common.{eq-eqb, refl}
 use Rattle.std.proofs.Math.Path.{fun_ext}
 use Rattle.std.proofs.lemmas.Bool.{ne_eqb, cases_eq, cases_lt}
 use Rattle.std.proofs.lemmas.Grind.{get_or-set_at}
 use Rattle.std.proofs.lemmas.List.{get_or-set_other, get_or_past, set_past}
+use Rattle.std.specs.Option.{UnwrapsOrElse}
 use Rattle.pim_course.specs.Courses.{free, idle, mutex_in, thread_in}
 use Rattle.pim_course.specs.Going.{IsStill}
 use Rattle.pim_course.specs.World.{World, but_for, world_of}
 use Rattle.pim_course.specs.declared.course.Course.{Course}
 use Rattle.pim_course.specs.declared.course.CourseMutex.{CourseMutex}
 use Rattle.pim_course.specs.declared.course.CourseThread.{CourseThread}
+
+-- an element of a list that `get` returns
+element : {X : Type 0} (P : X → Type 0) (xs : List X) (k : ℕ) (d r : X) → ((x : X) → P x → x ≡ d) →
+    UnwrapsOrElse (slice_get xs k) P r → r ≡ get_or xs k d
+element P [] k d r is e = is r e
+element P (x ∷ xs) zero d r is e = e
+element P (x ∷ xs) (suc k) d r is e = element P xs k d r is e
+
+pub got : {X : Type 0} (P : X → Type 0) (xs ys : List X) (k : ℕ) (d r : X) → xs ≡ ys → ((x : X) → P x → x ≡ d) →
+    UnwrapsOrElse (slice_get xs k) P r → r ≡ get_or ys k d
+got P xs ys k d r same is e = element P xs k d r is e ∙ ap (λ l. get_or l k d) same
 
 -- a field of each element of a list
 abbrev pub each : {X A : Type 0} → (X → A) → X → List X → ℕ → A

@@ -2,6 +2,8 @@
 use Rattle.std.specs.Prelude.{ℕ, slice_index_or, false, None}
 use Rattle.std.specs.Option.{unwrap_or}
 use Rattle.pim_facts.specs.declared.family.Family.{Family}
+use Rattle.pim_facts.specs.declared.ids.LoggedMutex.{LoggedMutex}
+use Rattle.pim_facts.specs.declared.ids.LoggedThread.{LoggedThread}
 use Rattle.pim_course.specs.declared.course.Course.{Course}
 use Rattle.pim_course.specs.declared.course.CourseMutex.{CourseMutex}
 use Rattle.pim_course.specs.declared.course.CourseThread.{CourseThread}
@@ -35,6 +37,14 @@ idle =
       awaits_own = None;
       level = 0;
     }
+
+-- a mutex as a log begins: free, with the ceiling of the log
+abbrev pub mutex_at_begin : LoggedMutex → CourseMutex
+mutex_at_begin is = record free { ceiling = is.ceiling }
+
+-- a thread as a log begins: it does nothing, and has the level of its first record
+abbrev pub thread_at_begin : LoggedThread → CourseThread
+thread_at_begin is = record idle { level = is.level }
 
 -- who owns and awaits a mutex in the course of a program; one that there isn't is free
 abbrev pub mutex_in : Course → ℕ → CourseMutex

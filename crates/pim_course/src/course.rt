@@ -1,9 +1,9 @@
 //! The course of a recorded program: who owns and awaits what, record by record.
-ghost use Rattle.std.specs.Prelude.{◌≡◌, ◌<◌, ℕ, [], length, slice_set, IfOk, None, Some};
+ghost use Rattle.std.specs.Prelude.{◌≡◌, ◌<◌, ℕ, [], length, map, slice_set, IfOk, None, Some};
 ghost use Rattle.std.specs.Option.{unwrap_or};
 ghost use Rattle.pim_facts.specs.Levels.{id_of, level_by};
 ghost use Rattle.pim_facts.specs.Shown.{shown_in};
-ghost use Rattle.pim_course.specs.Courses.{family_in, mutex_in, thread_in};
+ghost use Rattle.pim_course.specs.Courses.{family_in, mutex_at_begin, mutex_in, thread_at_begin, thread_in};
 ghost use Rattle.pim_course.specs.Depths.{depth_after, depths_after, is_recursive_in};
 ghost use Rattle.pim_course.specs.Details.{added_details, details_after, details_by, details_of};
 ghost use Rattle.pim_course.specs.Going.{GoesOn, HasSameSize, KeepsDepths, KeepsDetails, KeepsSections, Numbers, Tells};
@@ -15,6 +15,7 @@ ghost use Rattle.pim_course.specs.World.{Lead, but_for, world_of};
 use crate::next_owners::NextOwners;
 use crate::requests::{Request, Requests};
 use crate::wait_owners::first_other;
+use pim_facts::lists::{get, set};
 use pim_facts::{Fact, Facts, Family, Ids, LeftOut, What, ceiling_in, level_of};
 use pim_log::{Event, Mutex, Priority, Record};
 use std::alloc::{AllocError, Global};
@@ -111,18 +112,8 @@ impl Course {
     pub fn new(alloc: Global, ids: &Ids) -> Result<Course, AllocError>
         ensures { IfOk result (Begins ids.now) }
     {
-        let mut mutexes = vec![in alloc; CourseMutex::default(); ids.mutexes.len()]?;
-        for place in 0..mutexes.len() {
-            if place < ids.mutexes.len() {
-                mutexes[place].ceiling = ids.mutexes[place].ceiling;
-            }
-        }
-        let mut threads = vec![in alloc; CourseThread::default(); ids.threads.len()]?;
-        for place in 0..threads.len() {
-            if place < ids.threads.len() {
-                threads[place].level = ids.threads[place].level;
-            }
-        }
+        let mutexes = mutexes_at_begin(alloc, ids)?;
+        let threads = threads_at_begin(alloc, ids)?;
         Ok(Course {
             mutexes,
             threads,
@@ -136,20 +127,14 @@ impl Course {
     pub fn mutex(&self, mutex: u32) -> CourseMutex
         ensures { result ≡ mutex_in self.now mutex }
     {
-        self.mutexes
-            .get(mutex as usize)
-            .copied()
-            .unwrap_or_default()
+        get(&self.mutexes, mutex)
     }
 
     /// Returns a thread. One that there isn't does nothing.
     pub fn thread(&self, thread: u32) -> CourseThread
         ensures { result ≡ thread_in self.now thread }
     {
-        self.threads
-            .get(thread as usize)
-            .copied()
-            .unwrap_or_default()
+        get(&self.threads, thread)
     }
 
     /// Keeps what is known of a mutex, if there is one with the number.
@@ -157,9 +142,7 @@ impl Course {
         ensures mutexes { self.new.mutexes.items ≡ slice_set self.old.mutexes.items mutex is }
         ensures rest { self.new ≡ record self.old { mutexes = self.new.mutexes } }
     {
-        if (mutex as usize) < self.mutexes.len() {
-            self.mutexes[mutex as usize] = is;
-        }
+        set(&mut self.mutexes, mutex, is);
     }
 
     /// Keeps what is known of a thread, if there is one with the number.
@@ -167,9 +150,7 @@ impl Course {
         ensures threads { self.new.threads.items ≡ slice_set self.old.threads.items thread is }
         ensures rest { self.new ≡ record self.old { threads = self.new.threads } }
     {
-        if (thread as usize) < self.threads.len() {
-            self.threads[thread as usize] = is;
-        }
+        set(&mut self.threads, thread, is);
     }
 
     /// Goes on by a record. Adds what it shows to `shown`, notes whether it is a contradiction, and returns why the record
@@ -214,7 +195,7 @@ impl Course {
         match record.event {
             Event::Thread { priority, .. } => self.begin(record.thread, priority),
             Event::Priority { priority, .. } => self.set_level(id, priority),
-            Event::Ceiling(mutex) => self.set_ceiling(sources, record.thread, &mutex, id),
+            Event::Ceiling(mutex) => self.correct_ceiling(sources, record.thread, &mutex, id),
             Event::Request { mutex, owner } => self.request(sources, record, &mutex, owner, id),
             Event::Granted { mutex, .. } => self.grant(sources, record, &mutex, id),
             Event::Failed { .. } => self.fail(record.thread, id),
@@ -298,29 +279,14 @@ impl Course {
         LeftOut::Absentee
     }
 
-    fn set_ceiling(&mut self, sources: &Sources, thread: u32, said: &Mutex, mutex: u32) -> LeftOut
-        ensures size { HasSameSize self.old self.new }
-        ensures depths { KeepsDepths self.old self.new }
-        ensures sections { Numbers 1 self.old self.new }
-        ensures goes { mutex < length self.old.mutexes.items → GoesOn 1 self.old self.new }
-        ensures told { Tells 1 (ceiling_told sources.now (world_of self.old) thread mutex said.now) self.old self.new }
-        ensures details { KeepsDetails self.old self.new }
-    {
-        if self.correct_ceiling(sources, thread, said, mutex) {
-            LeftOut::Uncontended
-        } else {
-            LeftOut::Unchanged
-        }
-    }
-
-    /// Learns the ceiling of a PROTECT mutex, and returns whether a record of the thread says another than was known.
+    /// Learns the ceiling of a PROTECT mutex. Returns `Unchanged` unless a record of the thread says another than was known.
     pub(crate) fn correct_ceiling(
         &mut self,
         sources: &Sources,
         thread: u32,
         said: &Mutex,
         mutex: u32,
-    ) -> bool
+    ) -> LeftOut
         ensures size { HasSameSize self.old self.new }
         ensures depths { KeepsDepths self.old self.new }
         ensures sections { Numbers 1 self.old self.new }
@@ -333,22 +299,45 @@ impl Course {
         ensures ceiling { mutex < length self.old.mutexes.items → (world_of self.new).ceiling mutex ≡
             unwrap_or (ceiling_by_log (family_in sources.now mutex) said.now) ((world_of self.old).ceiling mutex) }
     {
-        let Some(ceiling) = ceiling_of(sources, said, mutex) else {
-            return false;
+        let Some(level) = ceiling_of(sources, said, mutex) else {
+            return LeftOut::Unchanged;
         };
         let mut is = self.mutex(mutex);
-        if is.ceiling == ceiling {
-            return false;
+        if is.ceiling == level {
+            return LeftOut::Unchanged;
         }
-        is.ceiling = ceiling;
+        is.ceiling = level;
         self.put_mutex(mutex, is);
-        let what = What::Ceiling {
-            mutex,
-            level: ceiling,
-        };
+        let what = What::Ceiling { mutex, level };
         self.shown.add(fact(what, thread, is.section));
-        true
+        LeftOut::Uncontended
     }
+}
+
+/// Returns the mutexes of a log as it begins.
+fn mutexes_at_begin(alloc: Global, ids: &Ids) -> Result<Vec<CourseMutex>, AllocError>
+    ensures { IfOk result (λ mutexes. mutexes.items ≡ map mutex_at_begin ids.now.mutexes.items) }
+{
+    ids.mutexes
+        .iter()
+        .map(|is| CourseMutex {
+            ceiling: is.ceiling,
+            ..CourseMutex::default()
+        })
+        .collect(alloc)
+}
+
+/// Returns the threads of a log as it begins.
+fn threads_at_begin(alloc: Global, ids: &Ids) -> Result<Vec<CourseThread>, AllocError>
+    ensures { IfOk result (λ threads. threads.items ≡ map thread_at_begin ids.now.threads.items) }
+{
+    ids.threads
+        .iter()
+        .map(|is| CourseThread {
+            level: is.level,
+            ..CourseThread::default()
+        })
+        .collect(alloc)
 }
 
 /// Returns the protocol of a mutex of the log.

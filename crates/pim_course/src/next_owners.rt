@@ -135,11 +135,7 @@ impl NextOwners {
     {
         let thread = *self.kept.get(record.number as usize)?;
         let mutex = ids.of_record(record.number)?;
-        if thread != 0 && may_own(ids, mutex, record.process, thread) {
-            Some(thread)
-        } else {
-            None
-        }
+        (thread != 0 && may_own(ids, mutex, record.process, thread)).then_some(thread)
     }
 
     /// Keeps this of the record with this number.
@@ -158,10 +154,7 @@ impl NextOwners {
     fn kept(&self, number: u64) -> Kept
         ensures { result ≡ kept_of self.now number }
     {
-        match self.kept.get(number as usize) {
-            Some(kept) => Kept::of(*kept),
-            None => Kept::Owner(None),
-        }
+        Kept::of(self.kept.get(number as usize).copied().unwrap_or(0))
     }
 
     /// Returns of a RELEASE with this number the other thread that is granted the mutex next, if it calls nothing before: if it
@@ -379,14 +372,8 @@ impl Coming {
             CoversThose ids behind → mutex < length ids.mutexes.items →
             result ≡ next_owner ids mutex thread behind }
     {
-        let next = get(&self.owners, mutex)?;
-        if next == thread {
-            return None;
-        }
-        if get(&self.granted, next) == Some(mutex) {
-            return Some(next);
-        }
-        None
+        let next = self.next_other(thread, mutex)?;
+        (get(&self.granted, next) == Some(mutex)).then_some(next)
     }
 }
 

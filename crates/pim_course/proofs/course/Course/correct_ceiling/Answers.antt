@@ -15,7 +15,7 @@ pub returns-clause-goes : goal.returns-clause-goes
 returns-clause-goes c below =
     goes-added c.args.self.now c.put_mutex.new.self _ _ _ c.fact.ensures
     (ap (λ d. d.shown) c.put_mutex.ensures.rest) c.add.ensures.shown c.add.ensures.full
-    (λ e. c.if-is-ceiling.false (ap (λ z. z.ceiling) c.mutex-is.ensures ∙ e))
+    (λ e. c.if-is-level.false (ap (λ z. z.ceiling) c.mutex-is.ensures ∙ e))
     (world-ceiling c.args.self.now c.put_mutex.new.self _ _ (ap (λ d. d.threads.items) c.put_mutex.ensures.rest)
     c.put_mutex.ensures.mutexes below (ap (λ z. z.owner) c.mutex-is.ensures))
 

@@ -23,16 +23,16 @@ returns-clause-goes c lt below =
     let m = c.args.mutex in
     let old : Course = c.args.self.now in
     let f : Course = c.forget_own.new.self in
-    let a : Course = c.correct_ceiling-self.new.self in
+    let a : Course = c.correct_ceiling.new.self in
     let b : Course = c.correct_wait.new.self in
     let g : Course = c.free.new.self in
     let new : Course = c.take.new.self in
     let in_f : m < length f.mutexes.items = omega (arith, c.forget_own.ensures.size.mutexes) in
     let in_b : m < length b.mutexes.items =
-    omega (arith, c.correct_ceiling-self.ensures.size.mutexes, c.correct_wait.ensures.size.mutexes) in
+    omega (arith, c.correct_ceiling.ensures.size.mutexes, c.correct_wait.ensures.size.mutexes) in
     let owned : c.mutex-owner.result.owner ≡ (world_of b).owner m =
     ap (λ z. z.owner) c.mutex-owner.ensures
-    ∙ sym (ap (λ h. h m) (c.correct_wait.ensures.owner ∙ c.correct_ceiling-self.ensures.owner
+    ∙ sym (ap (λ h. h m) (c.correct_wait.ensures.owner ∙ c.correct_ceiling.ensures.owner
     ∙ ap (λ w. w.owner) c.forget_own.ensures.still.world)) in
     let awaits : ((world_of g).awaits t ≡ None) ⊎ ((world_of g).awaits t ≡ Some m) =
     elim c.correct_wait.ensures.awaits [
@@ -40,7 +40,7 @@ returns-clause-goes c lt below =
       | inr it ↦ inr (ap (λ h. h t) c.free.ensures.awaits ∙ it.0)
     ] in
     goes-then 0 4 old f new (goes-still old f c.forget_own.ensures.still)
-    (goes-then 1 3 f a new (c.correct_ceiling-self.ensures.goes in_f)
+    (goes-then 1 3 f a new (c.correct_ceiling.ensures.goes in_f)
     (goes-then 1 2 a b new c.correct_wait.ensures.goes
     (goes-marked 2 c.is_contradicted-self.result b new
     (goes-then 1 1 _ g new (c.free.ensures.goes owned)
@@ -48,7 +48,7 @@ returns-clause-goes c lt below =
     (omega (
       arith,
       c.forget_own.ensures.size.threads,
-      c.correct_ceiling-self.ensures.size.threads,
+      c.correct_ceiling.ensures.size.threads,
       c.correct_wait.ensures.size.threads,
       c.free.ensures.size.threads,
     ))
@@ -61,7 +61,7 @@ returns-clause-told c =
     let m = c.args.mutex in
     let old : Course = c.args.self.now in
     let f : Course = c.forget_own.new.self in
-    let a : Course = c.correct_ceiling-self.new.self in
+    let a : Course = c.correct_ceiling.new.self in
     let b : Course = c.correct_wait.new.self in
     let g : Course = c.free.new.self in
     let new : Course = c.take.new.self in
@@ -70,7 +70,7 @@ returns-clause-told c =
     let gone = gave_up_told (world_of old) t (Some m) in
     let freed = freed_told (world_of old) m (Some t) in
     let awaits : (world_of a).awaits ≡ (world_of old).awaits =
-    c.correct_ceiling-self.ensures.awaits ∙ ap (λ w. w.awaits) still.world in
+    c.correct_ceiling.ensures.awaits ∙ ap (λ w. w.awaits) still.world in
     let is : is_that ((world_of b).awaits t) m ≡ is_that ((world_of old).awaits t) m =
     c.correct_wait.ensures.same m refl ∙ ap (λ (h : ℕ → Option ℕ). is_that (h t) m) awaits in
     tells-same 4 _ _ old new
@@ -81,7 +81,7 @@ returns-clause-told c =
     (tells-then 1 1 said gone old a b
     (tells-behind 1 said old f a still.shown
     (tells-same 1 _ said f a (ap (λ w. ceiling_told c.args.sources.now w t m c.args.said.now) still.world)
-    c.correct_ceiling-self.ensures.told))
+    c.correct_ceiling.ensures.told))
     (tells-same 1 _ gone a b (gave-up-same (world_of old) (world_of a) t (Some m) awaits) c.correct_wait.ensures.told))
     (tells-same 1 _ freed b g
     (ap (λ so. option_map_or (λ o. did (Released m (cond so (Some t) None)) o) c.mutex-owner.result.owner []) is
@@ -99,13 +99,13 @@ returns-clause-depths c below k =
     let once : ℕ → ℕ = but_for m 1 (depths_of old) in
     c.take.ensures.depths (omega (
       arith,
-      c.correct_ceiling-self.ensures.size.mutexes,
+      c.correct_ceiling.ensures.size.mutexes,
       c.correct_wait.ensures.size.mutexes,
       c.forget_own.ensures.size.mutexes,
       c.free.ensures.size.mutexes,
     )) k
     ∙ depth-put m 1 (depths_of old) (depths_of g)
-    (λ j other. c.free.ensures.depths j other ∙ c.correct_wait.ensures.depths j ∙ c.correct_ceiling-self.ensures.depths j
+    (λ j other. c.free.ensures.depths j other ∙ c.correct_wait.ensures.depths j ∙ c.correct_ceiling.ensures.depths j
     ∙ c.forget_own.ensures.depths j) k
     ∙ sym (ap (λ is. cond is (depth_again c.args.sources.now.ids (depths_of old) m) once k)
     (not-that _ _ _ (ap (λ z. z.owner) c.mutex-owner.ensures)
@@ -116,23 +116,23 @@ returns-clause-sections c below =
     let m = c.args.mutex in
     let old : Course = c.args.self.now in
     let f : Course = c.forget_own.new.self in
-    let a : Course = c.correct_ceiling-self.new.self in
+    let a : Course = c.correct_ceiling.new.self in
     let b : Course = c.correct_wait.new.self in
     let g : Course = c.free.new.self in
     let new : Course = c.take.new.self in
     let owned : c.mutex-owner.result.owner ≡ (world_of b).owner m =
     ap (λ z. z.owner) c.mutex-owner.ensures
-    ∙ sym (ap (λ h. h m) (c.correct_wait.ensures.owner ∙ c.correct_ceiling-self.ensures.owner
+    ∙ sym (ap (λ h. h m) (c.correct_wait.ensures.owner ∙ c.correct_ceiling.ensures.owner
     ∙ ap (λ w. w.owner) c.forget_own.ensures.still.world)) in
     numbers-then 0 4 old f new (numbers-none 0 old f c.forget_own.ensures.still.shown c.forget_own.ensures.sections)
-    (numbers-then 1 3 f a new c.correct_ceiling-self.ensures.sections
+    (numbers-then 1 3 f a new c.correct_ceiling.ensures.sections
     (numbers-then 1 2 a b new c.correct_wait.ensures.sections
     (numbers-marked 2 c.is_contradicted-self.result b new
     (numbers-then 1 1 _ g new (c.free.ensures.sections owned)
     (c.take.ensures.sections (omega (
       arith,
       c.forget_own.ensures.size.mutexes,
-      c.correct_ceiling-self.ensures.size.mutexes,
+      c.correct_ceiling.ensures.size.mutexes,
       c.correct_wait.ensures.size.mutexes,
       c.free.ensures.size.mutexes,
     )))))))
@@ -151,18 +151,18 @@ returns-clause-details c lt below =
     let forgotten : Details = own_forgotten t (details_of old) in
     let in_f : m < length f.mutexes.items = omega (arith, c.forget_own.ensures.size.mutexes) in
     let in_b : m < length b.mutexes.items =
-    omega (arith, in_f, c.correct_ceiling-self.ensures.size.mutexes, c.correct_wait.ensures.size.mutexes) in
+    omega (arith, in_f, c.correct_ceiling.ensures.size.mutexes, c.correct_wait.ensures.size.mutexes) in
     let same : details_of b ≡ forgotten =
-    c.correct_wait.ensures.details ∙ c.correct_ceiling-self.ensures.details ∙ c.forget_own.ensures.details lt in
+    c.correct_wait.ensures.details ∙ c.correct_ceiling.ensures.details ∙ c.forget_own.ensures.details lt in
     let that : is_that ((world_of b).awaits t) m ≡ is_that ((world_of old).awaits t) m =
     c.correct_wait.ensures.same m refl
     ∙ ap (λ (h : ℕ → Option ℕ). is_that (h t) m)
-    (c.correct_ceiling-self.ensures.awaits ∙ ap (λ v. v.awaits) c.forget_own.ensures.still.world) in
+    (c.correct_ceiling.ensures.awaits ∙ ap (λ v. v.awaits) c.forget_own.ensures.still.world) in
     let above : is_above sources (world_of b) t m ≡ is_above sources w t m =
     above-same sources (world_of b) (world_of old) t m said
-    (ap (λ v. v.level) c.correct_wait.ensures.rest ∙ c.correct_ceiling-self.ensures.level
+    (ap (λ v. v.level) c.correct_wait.ensures.rest ∙ c.correct_ceiling.ensures.level
     ∙ ap (λ v. v.level) c.forget_own.ensures.still.world)
-    (ap (λ v. v.ceiling m) c.correct_wait.ensures.rest ∙ c.correct_ceiling-self.ensures.ceiling in_f
+    (ap (λ v. v.ceiling m) c.correct_wait.ensures.rest ∙ c.correct_ceiling.ensures.ceiling in_f
     ∙ ap (λ v. unwrap_or (ceiling_by_log (family_in sources m) said) (v.ceiling m)) c.forget_own.ensures.still.world) in
     let is : c.is_contradicted-self.result ≡ is_contradicted sources w t m forgotten =
     c.is_contradicted-self.ensures

@@ -1,5 +1,4 @@
-use Rattle.std.proofs.Common.{◌≡◌, ◌+◌, ◌-◌, ◌∙◌, ap, arith, rules, subst}
-use Rattle.std.proofs.lemmas.Grind.{common_steps}
+use Rattle.std.proofs.Common.{◌≡◌, ◌+◌, ◌-◌, ◌∙◌, ap, arith, rules, replicate, subst, None}
 use Rattle.pim_log.specs.Headers.{end_of}
 use Rattle.pim_course.specs.AskedOwners.{HasAsked}
 use Rattle.pim_course.proofs.AskedOwning.{asked-begin, asked-end}
@@ -9,12 +8,18 @@ use Rattle.pim_course.proofs.next_owners.NextOwners.of.Goals as goal
 pub loop-number-init : goal.loop-number-init
 loop-number-init c = λ covers names.
     let end = c.end-number.ensures ∙ ap (λ h. end_of h) c.header.ensures in
-    asked-begin _ c.args.ids.now _ _ _ (omega arith) names
-    (grind (arith, common_steps, c.len.ensures, c.in_ok-vec.ensures.items_if_clones_equal (search rules)))
-    (grind (arith, common_steps, c.len-4.ensures, c.in_ok-vec-4.ensures.items_if_clones_equal (search rules)))
-    (grind (arith, common_steps, c.len-5.ensures, c.in_ok-vec-5.ensures.items_if_clones_equal (search rules)))
-    (grind (arith, common_steps, c.len-2.ensures, c.in_ok-vec-2.ensures.items_if_clones_equal (search rules)))
-    (grind (arith, common_steps, c.len-3.ensures, c.in_ok-vec-3.ensures.items_if_clones_equal (search rules)))
+    let ids = c.args.ids.now in
+    asked-begin _ ids _ _ _ (omega arith) names
+    (c.in_ok-vec.ensures.items_if_clones_equal (search rules)
+    ∙ ap (λ n. replicate n None) (c.len.ensures ∙ ids.mutexes.ok.0))
+    (c.in_ok-vec-4.ensures.items_if_clones_equal (search rules)
+    ∙ ap (λ n. replicate n None) (c.len-4.ensures ∙ ids.threads.ok.0))
+    (c.in_ok-vec-5.ensures.items_if_clones_equal (search rules)
+    ∙ ap (λ n. replicate n None) (c.len-5.ensures ∙ ids.threads.ok.0))
+    (c.in_ok-vec-2.ensures.items_if_clones_equal (search rules)
+    ∙ ap (λ n. replicate n None) (c.len-2.ensures ∙ ids.mutexes.ok.0))
+    (c.in_ok-vec-3.ensures.items_if_clones_equal (search rules)
+    ∙ ap (λ n. replicate n None) (c.len-3.ensures ∙ ids.threads.ok.0))
 
 pub returns-clause-releases : goal.returns-clause-releases
 returns-clause-releases c = λ covers names.
