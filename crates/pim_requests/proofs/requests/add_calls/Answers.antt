@@ -19,7 +19,8 @@ loop-number-init c = record {
   grants = λ log first. first;
   kept = λ q has. has;
   ends = refl;
-  calls = λ waits log covers room asked grants ended. those-first c.args.log.now c.args.sources.now.ids waits c.args.to.now.list.items;
+  calls = λ waits log covers room asked grants ended.
+      those-first c.args.log.now c.args.sources.now.ids waits c.args.to.now.list.items;
 }
 
 pub loop-number-preserved-in_default : goal.loop-number-preserved-in_default
@@ -76,7 +77,8 @@ loop-number-preserved c =
           (subst (λ k. IsAsked bytes ids k c.loop-number.asked.items) (sym at) (known.asked log asked))
           (subst (λ k. KnowsAsked bytes ids k c.loop-number.asked.items) (sym at) (known.knows log))
           (subst (λ k. KnowsAll bytes ids k c.loop-number.grants) (sym at) (known.grants log grants)) still silent)
-          (subst (λ k. HasThoseBefore bytes ids waits k list) (sym at) (known.calls waits log covers room asked grants ended)));
+          (subst (λ k. HasThoseBefore bytes ids waits k list) (sym at)
+          (known.calls waits log covers room asked grants ended)));
     }
 
 pub returns-clause-calls : goal.returns-clause-calls
