@@ -2,14 +2,14 @@
 use Rattle.std.proofs.Common.{◌≡◌, ◌≢◌, ℕ, ◌+◌, ◌<◌, ◌==◌, Bool, true, false, cond, not, nat_le, nat_lt, ◌&&◌, ◌||◌, List, ◌∷◌, length, Option, Some, None, option_map, Result, Ok, Err, refl, sym, ap, ◌∙◌, subst, inl, inr, arith, eq-eqb}
 use Rattle.std.specs.List.{count_by, list_any}
 use Rattle.std.specs.Result.{IfOk}
-use Rattle.std.proofs.lemmas.Bool.{ne_eqb, lt-ltb, le-leb, leb-true, eqb-true, cases_eq, and_left, and_right, and_from, and_parts, both_ways}
+use Rattle.std.proofs.lemmas.Bool.{ne_eqb, lt-ltb, le-leb, leb-true, cases_eq, and_left, and_right, and_from, both_ways}
 use Rattle.std.proofs.lemmas.List.Sums.{sum_by-cons}
 use Rattle.std.proofs.lemmas.List.Folds.{Any-from_list_any, list_any-from_Any}
 use mathlib.Core.Path.{fun_ext}
 use Rattle.pim_facts.specs.declared.fact.What.TheVariants.{Granted, Waits, GaveUp}
 use Rattle.pim_course.specs.Courses.{family_in}
 use Rattle.pim_findings.specs.declared.found_wait.FoundWait.{FoundWait}
-use Rattle.pim_findings.specs.declared.waiting.Queued.{Queued}
+use Rattle.pim_findings.specs.declared.queues.Queued.{Queued}
 use Rattle.pim_findings.specs.declared.waiting.Release.{Release}
 use Rattle.pim_findings.specs.declared.waiting.Waiting.{Waiting}
 use Rattle.pim_findings.specs.declared.findings.Findings.{Findings}
@@ -17,7 +17,7 @@ use Rattle.pim_findings.specs.Waits.{Moment, after_own, begun_wait, wait_of}
 use Rattle.pim_findings.specs.Longest.{capped}
 use Rattle.pim_findings.specs.Levels as levels
 use Rattle.pim_findings.specs.Levels.{before_release, is_protect}
-use Rattle.pim_findings.specs.Queue.{KeepsQueue, protects_at, queued_at}
+use Rattle.pim_findings.specs.Queue.{KeepsQueue, protects_at, queue_of, queued_at}
 use Rattle.pim_findings.specs.Ownerships.{grants, is_grant, is_release, mutex_at, releases}
 use Rattle.pim_findings.specs.HandOvers.{AreHandOvers, HandsOn, HandsOver, IsEarly, IsLeft, Leaves, begins_wait, begun_by, by_grant, by_other, left_by, number_of, protects_by, queued_by, still_left, taken}
 use Rattle.pim_findings.proofs.Steps.{wait_of-other, wait_of-own}
@@ -253,7 +253,7 @@ handed-granted n k facts m mutex old mid new is len same protects left handed ot
       mutexes = ap (λ v. length v.items) mutexes ∙ len ∙ o.mutexes;
       begun = begun ∙ ap (λ w. w.begun) same ∙ o.begun ∙ sym (begun-same m facts (ap begins_wait is));
       waits = waits-ended n k facts m old new.waiting (λ wait. ap (λ what. after_own m what wait) is) was o;
-      queue = queue (queue-kept old.waiting mid.waiting (ap (λ w. w.open) same) (ap (λ w. w.queue) same)
+      queue = queue (queue-kept old.waiting mid.waiting (ap (λ w. w.open) same) (ap (λ w. w.queues) same)
           (ap (λ w. length w.effective.items) same) o.queue);
       protects = λ one. ap (λ v. protects_in v.items one) protecting ∙ protects one
           ∙ ap (λ b. b || ((mutex == one) && is_protect (family_in m.sources mutex))) (o.protects one)
@@ -335,7 +335,7 @@ handed-released n k facts m mutex old new no_grant release no_begin unchanged le
       mutexes = len ∙ o.mutexes;
       begun = ap (λ w. w.begun) same ∙ o.begun ∙ sym (begun-same m facts no_begin);
       waits = λ t. ap (λ w. queued_at w t) same ∙ o.waits t ∙ sym (queued-same m facts t no_begin unchanged);
-      queue = queue-kept old.waiting new.waiting (ap (λ w. w.open) same) (ap (λ w. w.queue) same) places o.queue;
+      queue = queue-kept old.waiting new.waiting (ap (λ w. w.open) same) (ap (λ w. w.queues) same) places o.queue;
       protects = λ one. protects one ∙ ap (λ b. not (mutex == one) && b) (o.protects one)
           ∙ sym (protects_by-one m facts one (mutex == one) false (release one) (no_grant one));
       left = λ one h. elim (cases_eq one mutex) [
@@ -364,25 +364,20 @@ handed-released n k facts m mutex old new no_grant release no_begin unchanged le
 
 -- ---- the early waits of a queue
 
-abbrev early : ℕ → ℕ → Queued → Bool
-early mutex begun wait = (wait.mutex == mutex) && nat_le wait.number begun
+abbrev early : ℕ → Queued → Bool
+early begun wait = nat_le wait.number begun
 
 pub early-from : (waiting : Waiting) (mutex begun : ℕ) → KeepsQueue waiting →
-    list_any (early mutex begun) waiting.queue.items ≡ true → IsEarly (queued_at waiting) mutex begun
+    list_any (early begun) (queue_of waiting.queues mutex) ≡ true → IsEarly (queued_at waiting) mutex begun
 early-from waiting mutex begun k any =
-    let found = Any-from_list_any (early mutex begun) waiting.queue.items any in
-    let parts = and_parts (found.1.mutex == mutex) (nat_le found.1.number begun) found.4 in
-    record {
-      wait = found.1;
-      lasts = (k.exactly found.1).0 (found.0, found.2, found.3);
-      for_it = eqb-true found.1.mutex mutex parts.0;
-      early = leb-true found.1.number begun parts.1;
-    }
+    let found = Any-from_list_any (early begun) (queue_of waiting.queues mutex) any in
+    let is = (k.exactly mutex found.1).0 (found.0, found.2, found.3) in
+    record { wait = found.1; lasts = is.1; for_it = is.0; early = leb-true found.1.number begun found.4 }
 
 pub early-none : (waiting : Waiting) (mutex begun : ℕ) → KeepsQueue waiting →
-    list_any (early mutex begun) waiting.queue.items ≡ false → IsEarly (queued_at waiting) mutex begun → ⊥
+    list_any (early begun) (queue_of waiting.queues mutex) ≡ false → IsEarly (queued_at waiting) mutex begun → ⊥
 early-none waiting mutex begun k none e =
-    let at = (k.exactly e.wait).1 e.lasts in
-    both_ways (list_any (early mutex begun) waiting.queue.items) none
-    (list_any-from_Any (early mutex begun) waiting.queue.items
-    (at.0, e.wait, at.1, at.2, and_from _ _ (eq-eqb e.wait.mutex mutex e.for_it) (le-leb e.wait.number begun e.early)))
+    let at = (k.exactly mutex e.wait).1 (e.for_it, e.lasts) in
+    both_ways (list_any (early begun) (queue_of waiting.queues mutex)) none
+    (list_any-from_Any (early begun) (queue_of waiting.queues mutex)
+    (at.0, e.wait, at.1, at.2, le-leb e.wait.number begun e.early))

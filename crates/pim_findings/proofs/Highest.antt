@@ -1,39 +1,13 @@
--- The first wait for a mutex, looked for in the queue.
-use Rattle.std.proofs.Common.{◌≡◌, ◌⊎◌, ℕ, ◌<◌, Bool, true, false, cond, ◌&&◌, ◌||◌, List, [], ◌∷◌, length, get_or, ◌+◌, Option, Some, None, option_map, Contains, refl, sym, ap, ◌∙◌, subst, inl, inr, arith, eq-eqb}
-use Rattle.std.specs.List.{find}
+-- The first wait for a mutex, looked for in its queue.
+use Rattle.std.proofs.Common.{◌≡◌, ℕ, ◌<◌, Bool, true, false, ◌&&◌, ◌||◌, List, length, get_or, ◌+◌, Option, Some, None, option_map, Contains, refl, sym, ap, ◌∙◌, subst, inl, inr, arith, eq-eqb}
 use Rattle.std.specs.Option.{option_map_or}
 use Rattle.std.proofs.lemmas.Bool.{true≢false, ltb-true, ltb-false, eqb-true, or_cases, and_parts, cases_lt}
 use Rattle.std.proofs.lemmas.Option.{none-some, same_Some, slice_get-get_or}
-use Rattle.std.proofs.lemmas.List.Elements.{Contains-append_right}
 use Rattle.pim_findings.specs.declared.waiting.Open.{Open}
-use Rattle.pim_findings.specs.declared.waiting.Queued.{Queued}
+use Rattle.pim_findings.specs.declared.queues.Queued.{Queued}
 use Rattle.pim_findings.specs.declared.waiting.Waiting.{Waiting}
 use Rattle.pim_findings.specs.Levels.{awaits_by, number_by}
-use Rattle.pim_findings.specs.Queue.{IsBehind, KeepsQueue, is_before_at, level_at, queued, queued_at}
-use Rattle.pim_findings.proofs.Lasting.{contains-cases, contains-first}
-
--- ---- the first item that passes
-
-pub find-some : {X : Type 0} (p : X → Bool) (xs : List X) (x : X) → find p xs ≡ Some x → Contains xs x × (p x ≡ true)
-find-some p [] x h = absurd (none-some x h)
-find-some p (y ∷ ys) x h = go (p y) refl (find-some p ys x) h
-  where
-    go : (b : Bool) → p y ≡ b → (find p ys ≡ Some x → Contains ys x × (p x ≡ true)) → cond b (Some y) (find p ys) ≡ Some x →
-        Contains (y ∷ ys) x × (p x ≡ true)
-    go true e rest k =
-        let same = same_Some y x k in
-        (subst (Contains (y ∷ ys)) same (contains-first y ys), ap p (sym same) ∙ e)
-    go false e rest k = (Contains-append_right (y ∷ []) ys x (rest k).0, (rest k).1)
-
-pub find-none : {X : Type 0} (p : X → Bool) (xs : List X) (x : X) → find p xs ≡ None → Contains xs x → p x ≡ false
-find-none p [] x h c = absurd (omega (arith, c.1))
-find-none p (y ∷ ys) x h c = go (p y) refl (find-none p ys x) h (contains-cases y x ys c)
-  where
-    go : (b : Bool) → p y ≡ b → (find p ys ≡ None → Contains ys x → p x ≡ false) → cond b (Some y) (find p ys) ≡ None →
-        (y ≡ x) ⊎ Contains ys x → p x ≡ false
-    go true e rest k at = absurd (none-some y (sym k))
-    go false e rest k (inl same) = ap p (sym same) ∙ e
-    go false e rest k (inr behind) = rest k behind
+use Rattle.pim_findings.specs.Queue.{IsBehind, KeepsQueue, is_before_at, level_at, queue_of, queued, queued_at}
 
 -- ---- which wait is in front of which
 
@@ -87,14 +61,13 @@ same-item xs i d e inside = same_Some (get_or xs i d) (get_or xs i e) (sym (slic
     ∙ slice_get-get_or xs i e inside)
 
 -- what is behind the first so far, if the next wait is before that, and if it isn't
-pub behind-taken : (waiting : Waiting) (xs ys : List Queued) (i mutex : ℕ) (first new d : Queued) → ys ≡ xs → i < length xs →
-    new ≡ get_or ys i d →
-    IsBehind waiting first (get_or ys i d) →
-    ((k : ℕ) (e : Queued) → k < i → (get_or xs k e).mutex ≡ mutex → IsBehind waiting (get_or xs k e) first) →
-    (k : ℕ) (e : Queued) → k < i + 1 → (get_or xs k e).mutex ≡ mutex → IsBehind waiting (get_or xs k e) new
-behind-taken waiting xs ys i mutex first new d same inside is further behind k e within for_it =
+pub behind-taken : (waiting : Waiting) (xs ys : List Queued) (i : ℕ) (first new d : Queued) → ys ≡ xs → i < length xs →
+    new ≡ get_or ys i d → IsBehind waiting first (get_or ys i d) →
+    ((k : ℕ) (e : Queued) → k < i → IsBehind waiting (get_or xs k e) first) →
+    (k : ℕ) (e : Queued) → k < i + 1 → IsBehind waiting (get_or xs k e) new
+behind-taken waiting xs ys i first new d same inside is further behind k e within =
     subst (IsBehind waiting (get_or xs k e)) (sym is) (elim (cases_lt k i) [
-      | inl lt ↦ behind-further waiting (get_or xs k e) first (get_or ys i d) (behind k e lt for_it) further
+      | inl lt ↦ behind-further waiting (get_or xs k e) first (get_or ys i d) (behind k e lt) further
       | inr ge ↦
           let last : k ≡ i = omega arith in
           subst (λ (wait : Queued). IsBehind waiting wait (get_or ys i d))
@@ -102,39 +75,38 @@ behind-taken waiting xs ys i mutex first new d same inside is further behind k e
           (behind-itself waiting (get_or ys i d))
     ])
 
-pub behind-kept : (waiting : Waiting) (xs ys : List Queued) (i mutex : ℕ) (first new d : Queued) → ys ≡ xs →
-    i < length xs → new ≡ first →
-    ((get_or ys i d).mutex ≡ mutex → IsBehind waiting (get_or ys i d) first) →
-    ((k : ℕ) (e : Queued) → k < i → (get_or xs k e).mutex ≡ mutex → IsBehind waiting (get_or xs k e) first) →
-    (k : ℕ) (e : Queued) → k < i + 1 → (get_or xs k e).mutex ≡ mutex → IsBehind waiting (get_or xs k e) new
-behind-kept waiting xs ys i mutex first new d same inside is here behind k e within for_it =
+pub behind-kept : (waiting : Waiting) (xs ys : List Queued) (i : ℕ) (first new d : Queued) → ys ≡ xs →
+    i < length xs → new ≡ first → IsBehind waiting (get_or ys i d) first →
+    ((k : ℕ) (e : Queued) → k < i → IsBehind waiting (get_or xs k e) first) →
+    (k : ℕ) (e : Queued) → k < i + 1 → IsBehind waiting (get_or xs k e) new
+behind-kept waiting xs ys i first new d same inside is here behind k e within =
     subst (IsBehind waiting (get_or xs k e)) (sym is) (elim (cases_lt k i) [
-      | inl lt ↦ behind k e lt for_it
+      | inl lt ↦ behind k e lt
       | inr ge ↦
           let last : k ≡ i = omega arith in
           let item : get_or ys i d ≡ get_or xs k e = ap (λ l. get_or l i d) same ∙ same-item xs i d e inside
           ∙ ap (λ j. get_or xs j e) (sym last) in
-          subst (λ (wait : Queued). IsBehind waiting wait first) item
-          (here (ap (λ (wait : Queued). wait.mutex) item ∙ for_it))
+          subst (λ (wait : Queued). IsBehind waiting wait first) item here
     ])
 
--- ---- the queue and the threads that wait
+-- ---- the queues and the threads that wait
 
--- the thread of a wait of the queue waits for its mutex
-pub queue-waits : (waiting : Waiting) (wait : Queued) (mutex : ℕ) → KeepsQueue waiting → Contains waiting.queue.items wait →
-    wait.mutex ≡ mutex →
-    awaits_by (queued_at waiting) wait.thread ≡ Some mutex
-queue-waits waiting wait mutex k h e = ap (option_map (λ one. one.mutex)) ((k.exactly wait).0 h) ∙ ap (λ m. Some m) e
+-- the thread of a wait for a mutex waits for that
+pub queue-waits : (waiting : Waiting) (wait : Queued) (mutex : ℕ) → KeepsQueue waiting →
+    Contains (queue_of waiting.queues mutex) wait → awaits_by (queued_at waiting) wait.thread ≡ Some mutex
+queue-waits waiting wait mutex k h =
+    let is = (k.exactly mutex wait).0 h in
+    ap (option_map (λ one. one.mutex)) is.1 ∙ ap (λ m. Some m) is.0
 
-pub queue-number : (waiting : Waiting) (wait : Queued) → KeepsQueue waiting → Contains waiting.queue.items wait →
-    wait.number ≡ number_by (queued_at waiting) wait.thread
-queue-number waiting wait k h = sym (ap (λ one. option_map_or (λ (w : Queued). w.number) one 0) ((k.exactly wait).0 h))
+pub queue-number : (waiting : Waiting) (wait : Queued) (mutex : ℕ) → KeepsQueue waiting →
+    Contains (queue_of waiting.queues mutex) wait → wait.number ≡ number_by (queued_at waiting) wait.thread
+queue-number waiting wait mutex k h =
+    sym (ap (λ one. option_map_or (λ (w : Queued). w.number) one 0) ((k.exactly mutex wait).0 h).1)
 
--- a thread that waits for a mutex is in the queue
+-- a thread that waits for a mutex is in its queue
 pub record IsQueued (waiting : Waiting) (mutex t : ℕ) : Type 0 where
   pub wait : Queued
-  pub queued : Contains waiting.queue.items wait
-  pub for_it : wait.mutex ≡ mutex
+  pub queued : Contains (queue_of waiting.queues mutex) wait
   pub of_it : wait.thread ≡ t
 
 pub waits-queued : (waiting : Waiting) (mutex t : ℕ) → KeepsQueue waiting → awaits_by (queued_at waiting) t ≡ Some mutex →
@@ -146,7 +118,7 @@ waits-queued waiting mutex t k h = go (get_or waiting.open.items t None) refl h
     go None e h = absurd (none-some mutex h)
     go (Some one) e h = record {
       wait = record { number = one.number; thread = t; mutex = one.wait.mutex };
-      queued = (k.exactly (record { number = one.number; thread = t; mutex = one.wait.mutex })).1 (ap (queued t) e);
-      for_it = same_Some one.wait.mutex mutex h;
+      queued = (k.exactly mutex (record { number = one.number; thread = t; mutex = one.wait.mutex })).1
+          (same_Some one.wait.mutex mutex h, ap (queued t) e);
       of_it = refl;
     }

@@ -1,14 +1,18 @@
--- The queue stays that of the waits that last.
-use Rattle.std.proofs.Common.{◌≡◌, ◌≢◌, ◌⊎◌, ℕ, ◌<◌, ◌==◌, Bool, true, false, cond, not, ◌&&◌, ◌||◌, List, [], ◌∷◌, ◌++◌, length, get_or, Some, None, Contains, refl, sym, ap, ◌∙◌, subst, inl, inr, arith, eq-eqb, get_or-set_other, get_or-set_same}
+-- The queues stay those of the waits that last.
+use Rattle.std.proofs.Common.{◌≡◌, ◌≢◌, ◌⊎◌, ℕ, zero, suc, ◌<◌, ◌≤◌, ◌==◌, Bool, true, false, cond, not, ◌&&◌, ◌||◌, List, [], ◌∷◌, ◌++◌, length, get_or, Some, None, Contains, refl, sym, ap, ◌∙◌, subst, inl, inr, arith, eq-eqb, get_or-set_other, get_or-set_same}
 use Rattle.std.proofs.Math.ListN.{set, length-set}
+use Rattle.std.specs.Prelude.{Vec, slice_get}
+use Rattle.std.specs.Global.{Global}
 use Rattle.std.specs.List.{filter, list_any}
-use Rattle.std.proofs.lemmas.Bool.{false≢true, true≢false, ne_eqb, cases_eq}
-use Rattle.std.proofs.lemmas.Option.{none-some, same_Some}
+use Rattle.std.specs.Option.{option_map_or}
+use Rattle.std.proofs.lemmas.Bool.{false≢true, true≢false, ne_eqb, cases_eq, cases_lt}
+use Rattle.std.proofs.lemmas.Option.{none-some, same_Some, slice_get_within}
 use Rattle.std.proofs.lemmas.List.Elements.{Contains-append_left, Contains-append_right, Contains-push, Contains-push_cases}
 use Rattle.pim_findings.specs.declared.waiting.Open.{Open}
-use Rattle.pim_findings.specs.declared.waiting.Queued.{Queued}
+use Rattle.pim_findings.specs.declared.queues.Queued.{Queued}
+use Rattle.pim_findings.specs.declared.queues.Queues.{Queues}
 use Rattle.pim_findings.specs.declared.waiting.Waiting.{Waiting}
-use Rattle.pim_findings.specs.Queue.{KeepsQueue, queued, queued_at}
+use Rattle.pim_findings.specs.Queue.{KeepsQueue, ListsAwaited, queue_in, queue_of, queued, queued_at}
 use Rattle.pim_findings.proofs.Lasting.{contains-cases, contains-first}
 
 -- ---- what a filter keeps
@@ -74,18 +78,115 @@ any-without this one (x ∷ xs) = elim (cases_eq x this) [
     past a true c e = absurd (true≢false e)
     past a false c e = refl
 
--- ---- the queue after a wait begins or ends
+-- ---- the lists of the waits for each mutex
+
+pub queue-set_same : (lists : List (Vec Queued Global)) (m : ℕ) (list : Vec Queued Global) → m < length lists →
+    queue_in (set lists m list) m ≡ list.items
+queue-set_same [] m list inside = absurd (omega (arith, inside))
+queue-set_same (x ∷ xs) zero list inside = refl
+queue-set_same (x ∷ xs) (suc m) list inside = queue-set_same xs m list (omega (arith, inside))
+
+pub queue-set_other : (lists : List (Vec Queued Global)) (m : ℕ) (list : Vec Queued Global) (one : ℕ) → one ≢ m →
+    queue_in (set lists m list) one ≡ queue_in lists one
+queue-set_other [] m list one ne = refl
+queue-set_other (x ∷ xs) zero list zero ne = absurd (ne refl)
+queue-set_other (x ∷ xs) zero list (suc one) ne = refl
+queue-set_other (x ∷ xs) (suc m) list zero ne = refl
+queue-set_other (x ∷ xs) (suc m) list (suc one) ne = queue-set_other xs m list one (λ e. ne (ap suc e))
+
+pub queue-at : (lists : List (Vec Queued Global)) (m : ℕ) (list : Vec Queued Global) → slice_get lists m ≡ Some list →
+    queue_in lists m ≡ list.items
+queue-at lists m list got = ap (λ o. option_map_or (λ (one : Vec Queued Global). one.items) o []) got
+
+pub queue-past : (lists : List (Vec Queued Global)) (m : ℕ) → slice_get lists m ≡ None → queue_in lists m ≡ []
+queue-past lists m none = ap (λ o. option_map_or (λ (one : Vec Queued Global). one.items) o []) none
+
+-- an empty list behind the others is that of no wait
+pub queue-push : (lists : List (Vec Queued Global)) (list : Vec Queued Global) (one : ℕ) → list.items ≡ [] →
+    queue_in (lists ++ list ∷ []) one ≡ queue_in lists one
+queue-push [] list zero none = none
+queue-push [] list (suc one) none = refl
+queue-push (x ∷ xs) list zero none = refl
+queue-push (x ∷ xs) list (suc one) none = queue-push xs list one none
+
+-- the list of one mutex becomes another one
+pub queue-changed : (old new : List (Vec Queued Global)) (m : ℕ) (before after : Vec Queued Global)
+    (by : List Queued → List Queued) → slice_get old m ≡ Some before → new ≡ set old m after →
+    after.items ≡ by before.items → (one : ℕ) → queue_in new one ≡ cond (one == m) (by (queue_in old one)) (queue_in old one)
+queue-changed old new m before after by got is does one = elim (cases_eq one m) [
+  | inl same ↦
+      ap (λ l. queue_in l one) is ∙ ap (queue_in (set old m after)) same
+      ∙ queue-set_same old m after (slice_get_within old m before got) ∙ does
+      ∙ ap by (sym (ap (queue_in old) same ∙ queue-at old m before got))
+      ∙ sym (ap (λ b. cond b (by (queue_in old one)) (queue_in old one)) (eq-eqb one m same))
+  | inr ne ↦
+      ap (λ l. queue_in l one) is ∙ queue-set_other old m after one ne
+      ∙ sym (ap (λ b. cond b (by (queue_in old one)) (queue_in old one)) (ne_eqb one m ne))
+]
+
+-- ---- the mutexes for which threads wait
+
+-- a wait more, whose mutex is listed
+pub listed-joined : (old new : Queues) (wait : Queued) →
+    ((m : ℕ) → queue_of new m ≡ cond (m == wait.mutex) (queue_of old m ++ wait ∷ []) (queue_of old m)) →
+    ((m : ℕ) → Contains old.awaited.items m → Contains new.awaited.items m) →
+    (length (queue_of old wait.mutex) ≡ 0 → Contains new.awaited.items wait.mutex) → ListsAwaited old → ListsAwaited new
+listed-joined old new wait queues kept first lists m some = elim (cases_eq m wait.mutex) [
+  | inl same ↦ subst (Contains new.awaited.items) (sym same) (elim (cases_lt 0 (length (queue_of old wait.mutex))) [
+    | inl others ↦ kept wait.mutex (lists wait.mutex others)
+    | inr none ↦ first (omega (arith, none))
+  ])
+  | inr ne ↦
+      let list : queue_of new m ≡ queue_of old m =
+      queues m ∙ ap (λ b. cond b (queue_of old m ++ wait ∷ []) (queue_of old m)) (ne_eqb m wait.mutex ne) in
+      kept m (lists m (subst (λ l. 0 < length l) list some))
+]
+
+-- a wait less; a mutex is listed no more for which there is none left
+pub listed-left : (old new : Queues) (mutex thread : ℕ) →
+    ((m : ℕ) → queue_of new m ≡
+    cond (m == mutex) (filter (λ wait. not (wait.thread == thread)) (queue_of old m)) (queue_of old m)) →
+    ((m : ℕ) → 0 < length (queue_of new m) → Contains old.awaited.items m → Contains new.awaited.items m) →
+    ListsAwaited old → ListsAwaited new
+listed-left old new mutex thread queues kept lists m some =
+    kept m some (lists m (fewer (m == mutex) (subst (λ l. 0 < length l) (queues m) some)))
+  where
+    no-more : (xs : List Queued) → length (filter (λ (wait : Queued). not (wait.thread == thread)) xs) ≤ length xs
+    no-more [] = omega arith
+    no-more (x ∷ xs) = go (not (x.thread == thread)) (no-more xs)
+      where
+        go : (b : Bool) → length (filter (λ (wait : Queued). not (wait.thread == thread)) xs) ≤ length xs →
+            length (cond b (x ∷ filter (λ (wait : Queued). not (wait.thread == thread)) xs)
+            (filter (λ (wait : Queued). not (wait.thread == thread)) xs)) ≤ length (x ∷ xs)
+        go true rest = omega (arith, rest)
+        go false rest = omega (arith, rest)
+
+    fewer : (b : Bool) →
+        0 < length (cond b (filter (λ (wait : Queued). not (wait.thread == thread)) (queue_of old m)) (queue_of old m)) →
+        0 < length (queue_of old m)
+    fewer true h = let le = no-more (queue_of old m) in omega (arith, h, le)
+    fewer false h = h
+
+-- another one stays listed
+pub listed-other : (awaited : List ℕ) (mutex m : ℕ) → m ≢ mutex → Contains awaited m →
+    Contains (filter (λ other. not (other == mutex)) awaited) m
+listed-other awaited mutex m ne h = contains-filter (λ other. not (other == mutex)) awaited m (ap not (ne_eqb m mutex ne)) h
+
+-- ---- the queues after a wait begins or ends
 
 abbrev pub not_of : ℕ → Queued → Bool
 not_of thread wait = not (wait.thread == thread)
 
 -- the wait of a thread ends
-pub queue-left : (old new : Waiting) (thread : ℕ) → thread < length old.open.items →
-    new.open.items ≡ set old.open.items thread None →
-    new.queue.items ≡ filter (λ wait. not (wait.thread == thread)) old.queue.items → new.effective ≡ old.effective →
-    KeepsQueue old → KeepsQueue new
-queue-left old new thread inside opens queues levels k = record {
-  exactly = λ wait. (left wait, stays wait);
+pub queue-left : (old new : Waiting) (one : Open) (thread : ℕ) → thread < length old.open.items →
+    get_or old.open.items thread None ≡ Some one → new.open.items ≡ set old.open.items thread None →
+    ((m : ℕ) → queue_of new.queues m ≡
+    cond (m == one.wait.mutex) (filter (λ wait. not (wait.thread == thread)) (queue_of old.queues m))
+    (queue_of old.queues m)) →
+    (ListsAwaited old.queues → ListsAwaited new.queues) → new.effective ≡ old.effective → KeepsQueue old → KeepsQueue new
+queue-left old new one thread inside is opens queues lists levels k = record {
+  exactly = λ m wait. (left m wait, stays m wait);
+  awaited = lists k.awaited;
   places = ap (λ v. length v.items) levels ∙ k.places ∙ sym (ap length opens ∙ length-set old.open.items thread None);
 }
   where
@@ -97,27 +198,56 @@ queue-left old new thread inside opens queues levels k = record {
     here = ap (λ l. queued thread (get_or l thread None)) opens
         ∙ ap (queued thread) (get_or-set_same old.open.items thread None None inside)
 
-    left : (wait : Queued) → Contains new.queue.items wait → queued_at new wait.thread ≡ Some wait
-    left wait h =
-        let kept = from-filter (not_of thread) old.queue.items wait (subst (λ l. Contains l wait) queues h) in
-        at wait.thread (λ same. true≢false (sym kept.1 ∙ ap not (eq-eqb wait.thread thread same)))
-        ∙ (k.exactly wait).0 kept.0
+    was : queued_at old thread ≡ Some (record { number = one.number; thread = thread; mutex = one.wait.mutex })
+    was = ap (queued thread) is
 
-    stays : (wait : Queued) → queued_at new wait.thread ≡ Some wait → Contains new.queue.items wait
-    stays wait h = elim (cases_eq wait.thread thread) [
-      | inl same ↦ absurd (none-some wait (sym (ap (queued_at new) same ∙ here) ∙ h))
-      | inr ne ↦ subst (λ l. Contains l wait) (sym queues)
-          (contains-filter (not_of thread) old.queue.items wait (ap not (ne_eqb wait.thread thread ne))
-          ((k.exactly wait).1 (sym (at wait.thread ne) ∙ h)))
+    of-it : (wait : Queued) → queued_at old wait.thread ≡ Some wait → wait.thread ≡ thread → wait.mutex ≡ one.wait.mutex
+    of-it wait h e = sym (ap (λ (w : Queued). w.mutex)
+        (same_Some (record { number = one.number; thread = thread; mutex = one.wait.mutex }) wait
+        (sym was ∙ ap (queued_at old) (sym e) ∙ h)))
+
+    left : (m : ℕ) (wait : Queued) → Contains (queue_of new.queues m) wait →
+        (wait.mutex ≡ m) × (queued_at new wait.thread ≡ Some wait)
+    left m wait h = elim (cases_eq m one.wait.mutex) [
+      | inl same ↦
+          let list : queue_of new.queues m ≡ filter (not_of thread) (queue_of old.queues m) = queues m
+          ∙ ap (λ b. cond b (filter (not_of thread) (queue_of old.queues m)) (queue_of old.queues m))
+          (eq-eqb m one.wait.mutex same) in
+          let kept = from-filter (not_of thread) (queue_of old.queues m) wait (subst (λ l. Contains l wait) list h) in
+          let had = (k.exactly m wait).0 kept.0 in
+          (had.0, at wait.thread (λ e. true≢false (sym kept.1 ∙ ap not (eq-eqb wait.thread thread e))) ∙ had.1)
+      | inr ne ↦
+          let list : queue_of new.queues m ≡ queue_of old.queues m = queues m
+          ∙ ap (λ b. cond b (filter (not_of thread) (queue_of old.queues m)) (queue_of old.queues m))
+          (ne_eqb m one.wait.mutex ne) in
+          let had = (k.exactly m wait).0 (subst (λ l. Contains l wait) list h) in
+          (had.0, at wait.thread (λ e. ne (sym had.0 ∙ of-it wait had.1 e)) ∙ had.1)
+    ]
+
+    kept : (m : ℕ) (wait : Queued) (b : Bool) → wait.thread ≢ thread → Contains (queue_of old.queues m) wait →
+        Contains (cond b (filter (not_of thread) (queue_of old.queues m)) (queue_of old.queues m)) wait
+    kept m wait true ne h = contains-filter (not_of thread) (queue_of old.queues m) wait
+        (ap not (ne_eqb wait.thread thread ne)) h
+    kept m wait false ne h = h
+
+    stays : (m : ℕ) (wait : Queued) → (wait.mutex ≡ m) × (queued_at new wait.thread ≡ Some wait) →
+        Contains (queue_of new.queues m) wait
+    stays m wait h = elim (cases_eq wait.thread thread) [
+      | inl same ↦ absurd (none-some wait (sym (ap (queued_at new) same ∙ here) ∙ h.1))
+      | inr ne ↦ subst (λ l. Contains l wait) (sym (queues m)) (kept m wait (m == one.wait.mutex) ne
+          ((k.exactly m wait).1 (h.0, sym (at wait.thread ne) ∙ h.1)))
     ]
 
 -- a thread that doesn't wait begins to
 pub queue-joined : (old new : Waiting) (one : Open) (wait : Queued) → wait.thread < length old.open.items →
     wait ≡ record { number = one.number; thread = wait.thread; mutex = one.wait.mutex } → queued_at old wait.thread ≡ None →
     new.open.items ≡ set old.open.items wait.thread (Some one) →
-    new.queue.items ≡ old.queue.items ++ wait ∷ [] → new.effective ≡ old.effective → KeepsQueue old → KeepsQueue new
-queue-joined old new one wait inside is none opens queues levels k = record {
-  exactly = λ other. (joined other, stays other);
+    ((m : ℕ) → queue_of new.queues m ≡
+    cond (m == wait.mutex) (queue_of old.queues m ++ wait ∷ []) (queue_of old.queues m)) →
+    (ListsAwaited old.queues → ListsAwaited new.queues) → new.effective ≡ old.effective → KeepsQueue old → KeepsQueue new
+queue-joined old new one wait inside is none opens queues lists levels k = record {
+  exactly = λ m other. (joined m other, stays m other);
+  awaited = lists k.awaited;
   places = ap (λ v. length v.items) levels ∙ k.places
       ∙ sym (ap length opens ∙ length-set old.open.items wait.thread (Some one));
 }
@@ -131,29 +261,62 @@ queue-joined old new one wait inside is none opens queues levels k = record {
         ∙ ap (queued wait.thread) (get_or-set_same old.open.items wait.thread (Some one) None inside)
         ∙ ap (λ w. Some w) (sym is)
 
-    joined : (other : Queued) → Contains new.queue.items other → queued_at new other.thread ≡ Some other
-    joined other h = elim (Contains-push_cases old.queue.items wait other (subst (λ l. Contains l other) queues h)) [
-      | inl before ↦
-          let was = (k.exactly other).0 before in
-          at other.thread (λ same. none-some other (sym none ∙ ap (queued_at old) (sym same) ∙ was)) ∙ was
-      | inr same ↦ subst (λ w. queued_at new w.thread ≡ Some w) same here
+    had : (m : ℕ) (other : Queued) → Contains (queue_of old.queues m) other →
+        (other.mutex ≡ m) × (queued_at new other.thread ≡ Some other)
+    had m other h =
+        let was = (k.exactly m other).0 h in (
+          was.0,
+          at other.thread (λ same. none-some other (sym none ∙ ap (queued_at old) (sym same) ∙ was.1)) ∙ was.1,
+        )
+
+    joined : (m : ℕ) (other : Queued) → Contains (queue_of new.queues m) other →
+        (other.mutex ≡ m) × (queued_at new other.thread ≡ Some other)
+    joined m other h = elim (cases_eq m wait.mutex) [
+      | inl same ↦
+          let list : queue_of new.queues m ≡ queue_of old.queues m ++ wait ∷ [] = queues m
+          ∙ ap (λ b. cond b (queue_of old.queues m ++ wait ∷ []) (queue_of old.queues m)) (eq-eqb m wait.mutex same) in
+          elim (Contains-push_cases (queue_of old.queues m) wait other (subst (λ l. Contains l other) list h)) [
+            | inl before ↦ had m other before
+            | inr last ↦ (
+              subst (λ (w : Queued). w.mutex ≡ m) last (sym same),
+              subst (λ (w : Queued). queued_at new w.thread ≡ Some w) last here,
+            )
+          ]
+      | inr ne ↦
+          let list : queue_of new.queues m ≡ queue_of old.queues m = queues m
+          ∙ ap (λ b. cond b (queue_of old.queues m ++ wait ∷ []) (queue_of old.queues m)) (ne_eqb m wait.mutex ne) in
+          had m other (subst (λ l. Contains l other) list h)
     ]
 
-    stays : (other : Queued) → queued_at new other.thread ≡ Some other → Contains new.queue.items other
-    stays other h = subst (λ l. Contains l other) (sym queues) (elim (cases_eq other.thread wait.thread) [
-      | inl same ↦ subst (Contains (old.queue.items ++ wait ∷ []))
-          (same_Some wait other (sym here ∙ ap (queued_at new) (sym same) ∙ h)) (Contains-push old.queue.items wait)
-      | inr ne ↦ Contains-append_left old.queue.items (wait ∷ []) other ((k.exactly other).1 (sym (at other.thread ne) ∙ h))
+    more : (m : ℕ) (other : Queued) (b : Bool) → Contains (queue_of old.queues m) other →
+        Contains (cond b (queue_of old.queues m ++ wait ∷ []) (queue_of old.queues m)) other
+    more m other true h = Contains-append_left (queue_of old.queues m) (wait ∷ []) other h
+    more m other false h = h
+
+    stays : (m : ℕ) (other : Queued) → (other.mutex ≡ m) × (queued_at new other.thread ≡ Some other) →
+        Contains (queue_of new.queues m) other
+    stays m other h = subst (λ l. Contains l other) (sym (queues m)) (elim (cases_eq other.thread wait.thread) [
+      | inl same ↦
+          let last : wait ≡ other = same_Some wait other (sym here ∙ ap (queued_at new) (sym same) ∙ h.1) in
+          let for_it : m ≡ wait.mutex = sym h.0 ∙ ap (λ (w : Queued). w.mutex) (sym last) in
+          subst (λ b. Contains (cond b (queue_of old.queues m ++ wait ∷ []) (queue_of old.queues m)) other)
+          (sym (eq-eqb m wait.mutex for_it))
+          (subst (Contains (queue_of old.queues m ++ wait ∷ [])) last (Contains-push (queue_of old.queues m) wait))
+      | inr ne ↦ more m other (m == wait.mutex) ((k.exactly m other).1 (h.0, sym (at other.thread ne) ∙ h.1))
     ])
 
--- the queue stays where only other things change
-pub queue-kept : (old new : Waiting) → new.open ≡ old.open → new.queue ≡ old.queue →
+-- the queues stay where only other things change
+pub queue-kept : (old new : Waiting) → new.open ≡ old.open → new.queues ≡ old.queues →
     length new.effective.items ≡ length old.effective.items → KeepsQueue old → KeepsQueue new
 queue-kept old new opens queues levels k = record {
-  exactly = λ wait. (
-    (λ h. at wait.thread ∙ (k.exactly wait).0 (subst (λ v. Contains v.items wait) queues h)),
-    (λ h. subst (λ v. Contains v.items wait) (sym queues) ((k.exactly wait).1 (sym (at wait.thread) ∙ h))),
+  exactly = λ m wait. (
+    (λ h.
+        let was = (k.exactly m wait).0 (subst (λ q. Contains (queue_of q m) wait) queues h) in
+        (was.0, at wait.thread ∙ was.1)),
+    (λ h. subst (λ q. Contains (queue_of q m) wait) (sym queues)
+        ((k.exactly m wait).1 (h.0, sym (at wait.thread) ∙ h.1))),
   );
+  awaited = subst ListsAwaited (sym queues) k.awaited;
   places = levels ∙ k.places ∙ sym (ap (λ v. length v.items) opens);
 }
   where

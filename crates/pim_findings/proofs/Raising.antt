@@ -8,7 +8,7 @@ use Rattle.std.proofs.lemmas.Option.{none-some, same_Some}
 use Rattle.std.proofs.lemmas.List.{get_or_default, get_or_past}
 use Rattle.std.proofs.lemmas.List.Sums.{count_by-le-length, get_or-le-sum_by, sum_by-set}
 use Rattle.std.proofs.lemmas.List.Folds.{Any-from_list_any}
-use Rattle.pim_findings.specs.declared.waiting.Queued.{Queued}
+use Rattle.pim_findings.specs.declared.queues.Queued.{Queued}
 use Rattle.pim_findings.specs.declared.waiting.Waiting.{Waiting}
 use Rattle.pim_findings.specs.Levels.{Before, Gets, awaits_by, ceiling, heir_by, inherited, own}
 use Rattle.pim_findings.specs.Queue.{AreEffective, AreSound, IsRaised, KeepsQueue, level_at, queued, queued_at}
@@ -262,28 +262,34 @@ pub record HasOwn (before : Before) (waiting : Waiting) (t : ℕ) : Type 0 where
   pub ceilings : (mutex : ℕ) → IsTrue (before.protects mutex) → before.world.owner mutex ≡ Some t →
       before.world.ceiling mutex ≤ level_at waiting t
 
-gets-within : (before : Before) (waiting : Waiting) → AreSound before waiting →
-    ((t mutex : ℕ) → before.world.awaits t ≡ Some mutex → HasOwn before waiting t) →
-    {t level : ℕ} → Gets before t level → (mutex : ℕ) → before.world.awaits t ≡ Some mutex → level ≤ level_at waiting t
-gets-within before waiting s all (own {t}) mutex a = (all t mutex a).own
-gets-within before waiting s all (ceiling {t} {mutex = m} protects owner) mutex a = (all t mutex a).ceilings m protects owner
-gets-within before waiting s all (inherited {t} {waiter} {mutex = m} {level} waits inherits owner g) mutex a =
-    let one : level ≤ level_at waiting waiter = gets-within before waiting s all g m waits in
+-- this is so of those that wait for a mutex whose waiters count: an INHERIT one, or this one
+abbrev pub AllHaveOwn : Before → Waiting → ℕ → Type 0
+AllHaveOwn before waiting this = (t mutex : ℕ) → (mutex ≡ this) ⊎ (before.inherits mutex ≡ true) →
+    before.world.awaits t ≡ Some mutex → HasOwn before waiting t
+
+gets-within : (before : Before) (waiting : Waiting) (this : ℕ) → AreSound before waiting → AllHaveOwn before waiting this →
+    {t level : ℕ} → Gets before t level → (mutex : ℕ) → (mutex ≡ this) ⊎ (before.inherits mutex ≡ true) →
+    before.world.awaits t ≡ Some mutex → level ≤ level_at waiting t
+gets-within before waiting this s all (own {t}) mutex counts a = (all t mutex counts a).own
+gets-within before waiting this s all (ceiling {t} {mutex = m} protects owner) mutex counts a =
+    (all t mutex counts a).ceilings m protects owner
+gets-within before waiting this s all (inherited {t} {waiter} {mutex = m} {level} waits inherits owner g) mutex counts a =
+    let one : level ≤ level_at waiting waiter = gets-within before waiting this s all g m (inr inherits) waits in
     let two : level_at waiting waiter ≤ level_at waiting t =
     s.passed waiter t mutex (heir-to before waiter m t waits inherits owner) a in
     omega arith
 
-pub all-effective : (before : Before) (waiting : Waiting) → AreSound before waiting →
-    ((t mutex : ℕ) → before.world.awaits t ≡ Some mutex → HasOwn before waiting t) → AreEffective before waiting
-all-effective before waiting s all = record {
-  gotten = λ t mutex a. elim (s.gotten t mutex a) [
+pub all-effective : (before : Before) (waiting : Waiting) (this : ℕ) → AreSound before waiting →
+    AllHaveOwn before waiting this → AreEffective before waiting this
+all-effective before waiting this s all = record {
+  gotten = λ t a. elim (s.gotten t this a) [
     | inl none ↦
-        let up : before.world.level t ≤ level_at waiting t = (all t mutex a).own in
+        let up : before.world.level t ≤ level_at waiting t = (all t this (inl refl) a).own in
         let same : before.world.level t ≡ level_at waiting t = omega arith in
         subst (Gets before t) same own
     | inr g ↦ g
   ];
-  highest = λ t mutex level a g. gets-within before waiting s all g mutex a;
+  highest = λ t level a g. gets-within before waiting this s all g this (inl refl) a;
 }
 
 -- the same where the levels are the same
@@ -306,7 +312,7 @@ raised-as before old now new first level same r = record {
     at : (t : ℕ) → level_at new t ≡ level_at now t
     at t = ap (λ l. get_or l t 0) same
 
--- ---- over the queue
+-- ---- over the queues
 
 -- a thread that waits has a place
 pub waits-inside : (waiting : Waiting) (t mutex : ℕ) → KeepsQueue waiting → awaits_by (queued_at waiting) t ≡ Some mutex →

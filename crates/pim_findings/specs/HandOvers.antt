@@ -7,7 +7,7 @@ use Rattle.pim_facts.specs.declared.fact.What.TheVariants.{Granted, Waits, GaveU
 use Rattle.pim_course.specs.Courses.{family_in}
 use Rattle.pim_findings.specs.declared.found_mutex.HandOvers.{HandOvers}
 use Rattle.pim_findings.specs.declared.found_mutex.Left.{Left}
-use Rattle.pim_findings.specs.declared.waiting.Queued.{Queued}
+use Rattle.pim_findings.specs.declared.queues.Queued.{Queued}
 use Rattle.pim_findings.specs.declared.findings.Findings.{Findings}
 use Rattle.pim_findings.specs.Waits.{Moment, wait_of}
 use Rattle.pim_findings.specs.Longest.{capped}

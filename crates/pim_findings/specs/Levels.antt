@@ -7,7 +7,7 @@ use Rattle.pim_course.specs.Courses.{family_in}
 use Rattle.pim_course.specs.World.{World, but_for, world_of}
 use Rattle.pim_course.specs.declared.course.Course.{Course}
 use Rattle.pim_course.specs.declared.course.Sources.{Sources}
-use Rattle.pim_findings.specs.declared.waiting.Queued.{Queued}
+use Rattle.pim_findings.specs.declared.queues.Queued.{Queued}
 use Rattle.pim_findings.specs.declared.waiting.Release.{Release}
 
 -- who owns and awaits what; which mutexes raise their owner to their ceiling, and which to the levels of those that wait;

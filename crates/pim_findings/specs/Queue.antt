@@ -1,14 +1,17 @@
 -- How the waits that last are kept.
-use Rattle.std.specs.Prelude.{◌≡◌, ◌⊎◌, ℕ, ◌<◌, ◌≤◌, ◌==◌, ◌&&◌, ◌||◌, nat_lt, Bool, length, slice_index_or, Option, Some, None, Contains, ◌↔◌}
+use Rattle.std.specs.Prelude.{◌≡◌, ◌⊎◌, ℕ, ◌<◌, ◌≤◌, ◌==◌, ◌&&◌, ◌||◌, nat_lt, Bool, List, [], length, slice_get, slice_index_or, Option, Some, None, Contains, ◌↔◌, IsTrue, Vec}
+use Rattle.std.specs.Global.{Global}
 use Rattle.std.specs.List.{list_any}
-use Rattle.std.specs.Option.{option_map}
+use Rattle.std.specs.Option.{option_map, option_map_or}
+use Rattle.pim_course.specs.Courses.{family_in}
 use Rattle.pim_findings.specs.declared.waiting.Open.{Open}
-use Rattle.pim_findings.specs.declared.waiting.Queued.{Queued}
+use Rattle.pim_findings.specs.declared.queues.Queued.{Queued}
+use Rattle.pim_findings.specs.declared.queues.Queues.{Queues}
 use Rattle.pim_findings.specs.declared.waiting.Release.{Release}
 use Rattle.pim_findings.specs.declared.waiting.Waiting.{Waiting}
 use Rattle.pim_course.specs.declared.course.Course.{Course}
 use Rattle.pim_course.specs.declared.course.Sources.{Sources}
-use Rattle.pim_findings.specs.Levels.{Before, Gets, Waits, before_release, heir_by}
+use Rattle.pim_findings.specs.Levels.{Before, Gets, Waits, before_release, heir_by, is_inherit}
 
 -- a wait as it is queued
 abbrev pub queued : ℕ → Option Open → Option Queued
@@ -18,9 +21,24 @@ queued t = option_map (λ one. record { number = one.number; thread = t; mutex =
 abbrev pub queued_at : Waiting → Waits
 queued_at waiting t = queued t (slice_index_or waiting.open.items t None)
 
--- the waits that last are in the queue, and no others, and there is a place for the level of each thread
+-- the waits for a mutex, by a list of those for each; none if it is too short
+abbrev pub queue_in : List (Vec Queued Global) → ℕ → List Queued
+queue_in lists mutex = option_map_or (λ (list : Vec Queued Global). list.items) (slice_get lists mutex) []
+
+-- the waits for a mutex
+abbrev pub queue_of : Queues → ℕ → List Queued
+queue_of queues mutex = queue_in queues.lists.items mutex
+
+-- each mutex is listed for which a thread waits
+abbrev pub ListsAwaited : Queues → Type 0
+ListsAwaited queues = (mutex : ℕ) → 0 < length (queue_of queues mutex) → Contains queues.awaited.items mutex
+
+-- The waits that last are in the queues of their mutexes, and no others are in any. The mutexes are listed for which threads
+-- wait, and there is a place for the level of each thread.
 pub record KeepsQueue (waiting : Waiting) : Type 0 where
-  pub exactly : (wait : Queued) → Contains waiting.queue.items wait ↔ (queued_at waiting wait.thread ≡ Some wait)
+  pub exactly : (mutex : ℕ) (wait : Queued) → Contains (queue_of waiting.queues mutex) wait ↔
+      ((wait.mutex ≡ mutex) × (queued_at waiting wait.thread ≡ Some wait))
+  pub awaited : ListsAwaited waiting.queues
   pub places : length waiting.effective.items ≡ length waiting.open.items
 
 -- whether a mutex is a PROTECT one that has an owner
@@ -49,10 +67,9 @@ pub record IsBehind (waiting : Waiting) (wait first : Queued) : Type 0 where
 -- a number is that of the wait for a mutex of the thread with the highest level, and of equal ones of the earliest
 pub record HasHighest (waiting : Waiting) (mutex number : ℕ) : Type 0 where
   pub first : Queued
-  pub queued : Contains waiting.queue.items first
-  pub for_it : first.mutex ≡ mutex
+  pub queued : Contains (queue_of waiting.queues mutex) first
   pub is : number ≡ first.number
-  pub behind : (wait : Queued) → Contains waiting.queue.items wait → wait.mutex ≡ mutex → IsBehind waiting wait first
+  pub behind : (wait : Queued) → Contains (queue_of waiting.queues mutex) wait → IsBehind waiting wait first
 
 -- Levels of the threads that wait, as far as they are computed: each is one that the thread gets, or the lowest still, and
 -- isn't higher than that of its heir.
@@ -68,7 +85,19 @@ pub record IsRaised (before : Before) (old new : Waiting) (first level : ℕ) : 
   pub kept : (t : ℕ) → level_at old t ≤ level_at new t
   pub reached : first < length old.effective.items → level ≤ level_at new first
 
--- the levels of the threads that wait are their effective levels
-pub record AreEffective (before : Before) (waiting : Waiting) : Type 0 where
-  pub gotten : (t mutex : ℕ) → before.world.awaits t ≡ Some mutex → Gets before t (level_at waiting t)
-  pub highest : (t mutex level : ℕ) → before.world.awaits t ≡ Some mutex → Gets before t level → level ≤ level_at waiting t
+-- whether the levels of those that wait for a mutex count as another or this one is released: it is this one, or an INHERIT
+-- mutex
+abbrev pub counts_at : Sources → Release → ℕ → Bool
+counts_at sources release mutex = (mutex == release.mutex) || is_inherit (family_in sources mutex)
+
+-- the levels of the threads that wait for a mutex are as high as their own, if they count, and no level is lower than it was
+pub record HaveOwn (before : Before) (counts : Bool) (old new : Waiting) (mutex : ℕ) : Type 0 where
+  pub sound : AreSound before new
+  pub kept : (t : ℕ) → level_at old t ≤ level_at new t
+  pub own : IsTrue counts → (wait : Queued) → Contains (queue_of old.queues mutex) wait →
+      before.world.level wait.thread ≤ level_at new wait.thread
+
+-- the levels of the threads that wait for a mutex are their effective levels
+pub record AreEffective (before : Before) (waiting : Waiting) (mutex : ℕ) : Type 0 where
+  pub gotten : (t : ℕ) → before.world.awaits t ≡ Some mutex → Gets before t (level_at waiting t)
+  pub highest : (t level : ℕ) → before.world.awaits t ≡ Some mutex → Gets before t level → level ≤ level_at waiting t

@@ -83,12 +83,12 @@ impl Findings {
         Ok(Findings {
             waits: FoundWaits::new(alloc, mutexes, lists_waits)?,
             mutexes: vec![in alloc; FoundMutex::UNSEEN; mutexes]?,
-            deadlocks: Vec::new(alloc),
-            bounds: Vec::new(alloc),
-            opposites: Vec::new(alloc),
             blocking: Blocking::new(alloc, sources)?,
             orders: Orders::new(alloc, sources.ids.threads.len())?,
             waiting: Waiting::new(alloc, sources.ids.threads.len())?,
+            deadlocks: Vec::new(alloc),
+            bounds: Vec::new(alloc),
+            opposites: Vec::new(alloc),
         })
     }
 

@@ -24,6 +24,7 @@ mod found_mutex;
 mod found_wait;
 mod found_waits;
 mod laws;
+mod queues;
 mod waiting;
 
 pub use deadlock::Deadlock;

@@ -1,15 +1,16 @@
 //! Who waits for which mutex, and who is the first waiter.
-ghost use Rattle.std.specs.Prelude.{◌≡◌, ◌↔◌, ℕ, ◌+◌, ◌<◌, ◌==◌, ◌&&◌, ◌||◌, false, nat_le, nat_lt, not, length, slice_set, Contains, Option, Some, None, IfOk, IsTrue, MatchOption, if◌then◌else◌, slice_index_or};
-ghost use Rattle.std.specs.List.{filter, find, list_all, list_any};
+ghost use Rattle.std.specs.Prelude.{◌≡◌, ◌↔◌, ℕ, ◌+◌, ◌<◌, ◌≤◌, ◌==◌, ◌&&◌, ◌||◌, false, nat_le, nat_lt, not, length, slice_get, slice_set, Contains, Option, Some, None, IfOk, IsTrue, MatchOption, if◌then◌else◌, slice_index_or};
+ghost use Rattle.std.specs.List.{list_any};
 ghost use Rattle.pim_findings.specs.Found.{wait_at};
 ghost use Rattle.pim_findings.specs.HandOvers.{number_for};
 ghost use Rattle.pim_course.specs.World.{but_for, world_of};
-ghost use Rattle.pim_findings.specs.declared.waiting.Queued as queues;
+ghost use Rattle.pim_findings.specs.declared.queues.Queued as queues;
 ghost use Rattle.pim_findings.specs.Levels.{Gets, IsFirstNumber, heir_by};
 ghost use Rattle.pim_findings.specs.Longest.{capped};
-ghost use Rattle.pim_findings.specs.Queue.{AreEffective, AreSound, HasHighest, IsRaised, KeepsQueue, before_at, is_before_at, level_at, protects_at, queued_at};
+ghost use Rattle.pim_findings.specs.Queue.{AreEffective, AreSound, HasHighest, HaveOwn, IsRaised, KeepsQueue, before_at, counts_at, is_before_at, level_at, protects_at, queue_of, queued_at};
 
 use crate::found_wait::FoundWait;
+use crate::queues::{Queued, Queues, remove};
 use pim_course::{Course, Sources, family_of};
 use pim_facts::Family;
 use pim_facts::lists::push;
@@ -21,15 +22,6 @@ struct Open {
     /// From 1 on, in the order in which waits begin.
     number: u64,
     wait: FoundWait,
-}
-
-/// A wait that lasts, as far as the first waiter is looked for by it.
-#[derive(Clone, Copy)]
-struct Queued {
-    /// That of the wait, from 1 on.
-    number: u64,
-    thread: u32,
-    mutex: u32,
 }
 
 /// A thread releases a mutex.
@@ -46,8 +38,8 @@ pub(crate) struct Waiting {
     open: Vec<Option<Open>>,
     /// How many waits have begun.
     begun: u64,
-    /// The waits in the order in which they began.
-    queue: Vec<Queued>,
+    /// The waits by mutex.
+    queues: Queues,
     /// The PROTECT mutexes that have an owner.
     protecting: Vec<u32>,
     /// By thread its effective level, as far as it is computed.
@@ -70,10 +62,10 @@ impl Waiting {
     {
         Ok(Waiting {
             open: vec![in alloc; None; threads]?,
-            begun: 0,
-            queue: Vec::new(alloc),
-            protecting: Vec::new(alloc),
             effective: vec![in alloc; 0; threads]?,
+            begun: 0,
+            queues: Queues::new(alloc),
+            protecting: Vec::new(alloc),
         })
     }
 
@@ -130,18 +122,18 @@ impl Waiting {
             let _other = self.end(place);
             self.begun = self.begun.saturating_add(1);
             let number = self.begun;
-            let queued = Queued {
+            self.queues.join(Queued {
                 number,
                 thread: wait.thread,
                 mutex: wait.mutex,
-            };
-            push(&mut self.queue, queued)?;
+            })?;
             self.open[place] = Some(Open { number, wait });
         }
         Ok(())
     }
 
-    /// Ends the wait of the thread with this number, and returns it as it began.
+    /// Ends the wait of the thread with this number, and returns it as it began. Goes through the waits for its mutex, and
+    /// through the mutexes for which threads wait if it is the last one.
     pub fn end(&mut self, thread: usize) -> Option<FoundWait>
         ensures wait { result ≡ wait_at self.old thread }
         ensures len { length self.new.open.items ≡ length self.old.open.items }
@@ -154,7 +146,7 @@ impl Waiting {
         let open = self.of(thread)?;
         if thread < self.open.len() {
             self.open[thread] = None;
-            leave_queue(&mut self.queue, thread);
+            self.queues.leave(open.wait.mutex, thread);
         }
         Some(open.wait)
     }
@@ -179,13 +171,14 @@ impl Waiting {
         remove(&mut self.protecting, mutex);
     }
 
-    /// Returns whether a wait for a mutex lasts that was among the first so many to begin.
+    /// Returns whether a wait for a mutex lasts that was among the first so many to begin. Goes through the waits for it.
     pub fn has_early(&self, mutex: u32, begun: u64) -> bool
-        ensures { result ≡ list_any (λ wait. (wait.mutex == mutex) && nat_le wait.number begun) self.now.queue.items }
+        ensures { result ≡ list_any (λ wait. nat_le wait.number begun) (queue_of self.now.queues mutex) }
     {
-        self.queue
+        self.queues
+            .of(mutex)
             .iter()
-            .any(|wait| wait.mutex == mutex && wait.number <= begun)
+            .any(|wait| wait.number <= begun)
     }
 
     /// Returns the number of the first wait for a mutex that a thread releases: that of the thread
@@ -197,36 +190,35 @@ impl Waiting {
             IsFirstNumber (before_at sources.now course.now release.now self.old) release.now.mutex result }
     {
         let any = self.any_of(release.mutex)?;
-        if self.is_alone(&any) {
+        if self.has_one(release.mutex) {
             return Some(any.number);
         }
         self.find_levels(sources, course, release);
-        Some(self.highest(&any))
+        Some(self.highest(release.mutex, &any))
     }
 
-    /// Returns a wait for a mutex.
+    /// Returns a wait for a mutex, if there is one.
     fn any_of(&self, mutex: u32) -> Option<Queued>
-        ensures { result ≡ find (λ wait. wait.mutex == mutex) self.now.queue.items }
+        ensures { result ≡ slice_get (queue_of self.now.queues mutex) 0 }
     {
-        self.queue.iter().copied().find(|wait| wait.mutex == mutex)
+        self.queues.of(mutex).first().copied()
     }
 
-    /// Returns whether no other thread waits for the mutex.
-    fn is_alone(&self, any: &Queued) -> bool
-        ensures { result ≡
-            list_all (λ wait. not (wait.mutex == any.now.mutex) || (wait.thread == any.now.thread)) self.now.queue.items }
+    /// Returns whether just one wait for a mutex lasts.
+    fn has_one(&self, mutex: u32) -> bool
+        ensures { result ≡ (length (queue_of self.now.queues mutex) == 1) }
     {
-        self.queue.iter().all(|wait| wait.mutex != any.mutex || wait.thread == any.thread)
+        self.queues.of(mutex).len() == 1
     }
 
-    /// Returns the number of the wait of the thread with the highest level of those that wait for the same mutex, and of
-    /// equal ones of the earliest.
-    fn highest(&self, any: &Queued) -> u64
-        ensures { Contains self.now.queue.items any.now → HasHighest self.now any.now.mutex result }
+    /// Returns the number of the wait for a mutex of the thread with the highest level, and of equal ones of the earliest.
+    /// This is one of the waits for it.
+    fn highest(&self, mutex: u32, any: &Queued) -> u64
+        ensures { Contains (queue_of self.now.queues mutex) any.now → HasHighest self.now mutex result }
     {
         let mut first = *any;
-        for wait in &self.queue {
-            if wait.mutex == any.mutex && self.is_before(wait, &first) {
+        for wait in self.queues.of(mutex) {
+            if self.is_before(wait, &first) {
                 first = *wait;
             }
         }
@@ -242,20 +234,20 @@ impl Waiting {
         level > lower || (level == lower && wait.number < other.number)
     }
 
-    /// Computes the effective level of each thread that waits, before a thread releases a mutex: the highest of its own
-    /// level, the ceilings of its PROTECT mutexes, and the effective levels of those that wait for its INHERIT mutexes.
-    /// Each level and each ceiling raises the levels along a chain, up to one that isn't lower.
+    /// Computes the effective level of each thread that waits for a mutex, before a thread releases it: the highest of
+    /// its own level, the ceilings of its PROTECT mutexes, and the effective levels of those that wait for its INHERIT
+    /// mutexes. Each level and each ceiling raises the levels along a chain, up to one that isn't lower. Goes through all
+    /// waits, and from those for this mutex and for INHERIT ones along their chains: others raise nobody.
     fn find_levels(&mut self, sources: &Sources, course: &Course, release: &Release)
         ensures rest { self.new ≡ record self.old { effective = self.new.effective } }
         ensures len { length self.new.effective.items ≡ length self.old.effective.items }
         ensures levels { KeepsQueue self.old →
-            AreEffective (before_at sources.now course.now release.now self.old) self.new }
+            AreEffective (before_at sources.now course.now release.now self.old) self.new release.now.mutex }
     {
         self.forget_levels();
-        for place in 0..self.queue.len() {
-            let thread = self.queue[place].thread;
-            let level = course.thread(thread).level;
-            self.raise_from(sources, course, release, thread, level);
+        for place in 0..self.queues.awaited.len() {
+            let mutex = self.queues.awaited[place];
+            self.raise_waiters(sources, course, release, mutex);
         }
         for protected in 0..self.protecting.len() {
             let mutex = self.protecting[protected];
@@ -267,11 +259,45 @@ impl Waiting {
     fn forget_levels(&mut self)
         ensures rest { self.new ≡ record self.old { effective = self.new.effective } }
         ensures len { length self.new.effective.items ≡ length self.old.effective.items }
-        ensures lowest { (wait : queues.Queued) → Contains self.old.queue.items wait → level_at self.new wait.thread ≡ 0 }
+        ensures lowest { KeepsQueue self.old → (mutex : ℕ) (wait : queues.Queued) →
+            Contains (queue_of self.old.queues mutex) wait → level_at self.new wait.thread ≡ 0 }
     {
-        for place in 0..self.queue.len() {
-            let thread = self.queue[place].thread;
+        for place in 0..self.queues.awaited.len() {
+            let mutex = self.queues.awaited[place];
+            self.forget_waiters(mutex);
+        }
+    }
+
+    /// Gives each thread that waits for a mutex the lowest level.
+    fn forget_waiters(&mut self, mutex: u32)
+        ensures rest { self.new ≡ record self.old { effective = self.new.effective } }
+        ensures len { length self.new.effective.items ≡ length self.old.effective.items }
+        ensures lower { (t : ℕ) → level_at self.new t ≤ level_at self.old t }
+        ensures lowest { (wait : queues.Queued) →
+            Contains (queue_of self.old.queues mutex) wait → level_at self.new wait.thread ≡ 0 }
+    {
+        for place in 0..self.queues.of(mutex).len() {
+            let thread = self.queues.of(mutex)[place].thread;
             self.put_level(thread, 0);
+        }
+    }
+
+    /// Raises the effective levels of the threads that wait for a mutex, and of those along their chains, to their own
+    /// levels, if they count.
+    fn raise_waiters(&mut self, sources: &Sources, course: &Course, release: &Release, mutex: u32)
+        ensures rest { self.new ≡ record self.old { effective = self.new.effective } }
+        ensures len { length self.new.effective.items ≡ length self.old.effective.items }
+        ensures levels { KeepsQueue self.old → let before = before_at sources.now course.now release.now self.old in
+            AreSound before self.old →
+            HaveOwn before (counts_at sources.now release.now mutex) self.old self.new mutex }
+    {
+        if !is_raising(sources, release, mutex) {
+            return;
+        }
+        for place in 0..self.queues.of(mutex).len() {
+            let thread = self.queues.of(mutex)[place].thread;
+            let level = course.thread(thread).level;
+            self.raise_from(sources, course, release, thread, level);
         }
     }
 
@@ -376,16 +402,10 @@ fn owner_before(course: &Course, release: &Release, mutex: u32) -> Option<u32>
     course.mutex(mutex).owner
 }
 
-/// Removes the wait of the thread with this number.
-fn leave_queue(queue: &mut Vec<Queued>, thread: usize)
-    ensures { queue.new.items ≡ filter (λ wait. not (wait.thread == thread)) queue.old.items }
+/// Returns whether the levels of those that wait for a mutex count as a thread releases this or another: it is the same, or
+/// an INHERIT one, whose owner they raise.
+fn is_raising(sources: &Sources, release: &Release, mutex: u32) -> bool
+    ensures { result ≡ counts_at sources.now release.now mutex }
 {
-    queue.retain(|wait| wait.thread as usize != thread);
-}
-
-/// Removes this one from a list.
-fn remove(list: &mut Vec<u32>, one: u32)
-    ensures { list.new.items ≡ filter (λ other. not (other == one)) list.old.items }
-{
-    list.retain(|other| *other != one);
+    mutex == release.mutex || family_of(sources, mutex) == Family::Inherit
 }

@@ -3,8 +3,8 @@ use Rattle.pim_findings.specs.Queue.{queued_at}
 use Rattle.pim_findings.proofs.Queueing.{queue-joined}
 use Rattle.pim_findings.proofs.waiting.Waiting.begin.Goals as goal
 
-pub returns-in_ok-push-clause-queue : goal.returns-in_ok-push-clause-queue
-returns-in_ok-push-clause-queue c = λ k.
+pub returns-in_ok-join-clause-queue : goal.returns-in_ok-join-clause-queue
+returns-in_ok-join-clause-queue c = λ k.
     let inside : c.args.wait.thread < length c.end-other.new.self.open.items =
     omega (arith, c.if-place-len.true, c.end-other.ensures.len, c.len.ensures) in
     let none : queued_at c.end-other.new.self c.args.wait.thread ≡ None =
@@ -14,4 +14,4 @@ returns-in_ok-push-clause-queue c = λ k.
     queue-joined c.end-other.new.self _
     (record { number = c.saturating_add-self.result; wait = c.args.wait })
     (record { number = c.saturating_add-self.result; thread = c.args.wait.thread; mutex = c.args.wait.mutex })
-    inside refl none refl c.in_ok-push.ensures refl (c.end-other.ensures.queue k)
+    inside refl none refl c.in_ok-join.ensures.queues c.in_ok-join.ensures.awaited refl (c.end-other.ensures.queue k)
