@@ -83,9 +83,9 @@ impl Findings {
         Ok(Findings {
             waits: FoundWaits::new(alloc, mutexes, lists_waits)?,
             mutexes: vec![in alloc; FoundMutex::UNSEEN; mutexes]?,
-            blocking: Blocking::new(alloc, sources)?,
             orders: Orders::new(alloc, sources.ids.threads.len())?,
             waiting: Waiting::new(alloc, sources.ids.threads.len())?,
+            blocking: Blocking::new(alloc, sources)?,
             deadlocks: Vec::new(alloc),
             bounds: Vec::new(alloc),
             opposites: Vec::new(alloc),

@@ -34,10 +34,10 @@ returns-clause-hand_overs c =
     record {
       threads = search rules;
       mutexes = search rules;
-      begun = c.in_ok-new-4.ensures.begun;
-      waits = c.in_ok-new-4.ensures.queued;
-      queue = c.in_ok-new-4.ensures.queue;
-      protects = c.in_ok-new-4.ensures.protects;
+      begun = c.in_ok-new-3.ensures.begun;
+      waits = c.in_ok-new-3.ensures.queued;
+      queue = c.in_ok-new-3.ensures.queue;
+      protects = c.in_ok-new-3.ensures.protects;
       left = λ mutex h. subst (λ (f : FoundMutex). IsLeft [] mutex f.left) (sym (unseen mutex h)) never;
       hand_overs = λ mutex h. subst (λ (f : FoundMutex). AreHandOvers [] mutex f.hand_overs) (sym (unseen mutex h)) at_first;
     }
