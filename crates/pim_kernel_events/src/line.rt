@@ -41,10 +41,12 @@ pub fn read_line(line: &[u8], number: u64, version: u64) -> Option<Line<'_>> {
     if first == b"end".as_slice() {
         return read_end(&mut words);
     }
-    let time = number_of(first)?;
-    let cpu = words.small()?;
-    let task = words.small()?;
-    let kind = words.next()?;
+    let (Some(time), Some(cpu)) = (number_of(first), words.small()) else {
+        return None;
+    };
+    let (Some(task), Some(kind)) = (words.small(), words.next()) else {
+        return None;
+    };
     if kind == b"name".as_slice() {
         return read_name(&mut words, time);
     }
@@ -85,26 +87,32 @@ fn read_name<'a>(words: &mut Words<'a>, time: u64) -> Option<Line<'a>> {
 enum Kind {
     Switch,
     Boost,
+    Call(FutexCall),
+    Return,
+    Wake,
+    Lost,
+}
+
+/// A futex call, whose line has the address.
+#[derive(Clone, Copy)]
+enum FutexCall {
     Lock,
     TryLock,
     Unlock,
     Wait,
-    Return,
-    Wake,
-    Lost,
 }
 
 /// The words for what happens, with the first version that has each.
 const KINDS: [(&[u8], u64, Kind); 10] = [
     (b"switch", 1, Kind::Switch),
     (b"setprio", 1, Kind::Boost),
-    (b"lock", 1, Kind::Lock),
-    (b"lock2", 1, Kind::Lock),
-    (b"trylock", 1, Kind::TryLock),
-    (b"unlock", 1, Kind::Unlock),
+    (b"lock", 1, Kind::Call(FutexCall::Lock)),
+    (b"lock2", 1, Kind::Call(FutexCall::Lock)),
+    (b"trylock", 1, Kind::Call(FutexCall::TryLock)),
+    (b"unlock", 1, Kind::Call(FutexCall::Unlock)),
     (b"return", 1, Kind::Return),
     (b"lost", 1, Kind::Lost),
-    (b"wait", WAITS_SINCE, Kind::Wait),
+    (b"wait", WAITS_SINCE, Kind::Call(FutexCall::Wait)),
     (b"wake", WAITS_SINCE, Kind::Wake),
 ];
 
@@ -121,88 +129,94 @@ fn kind_of(word: &[u8], version: u64) -> Option<Kind> {
 /// Returns what happened, by the word for it and the words behind.
 fn what_of(kind: Kind, words: &mut Words) -> Option<What> {
     match kind {
-        Kind::Switch => Some(What::Switch(switch_of(words)?)),
-        Kind::Boost => Some(What::Boost(boost_of(words)?)),
-        Kind::Lock => Some(What::Lock(call_of(words)?)),
-        Kind::TryLock => Some(What::TryLock(call_of(words)?)),
-        Kind::Unlock => Some(What::Unlock(call_of(words)?)),
-        Kind::Wait => Some(What::Wait(call_of(words)?)),
+        Kind::Switch => switch_of(words),
+        Kind::Boost => boost_of(words),
+        Kind::Call(call) => call_of(call, words),
         Kind::Return => Some(What::Return(answer_of(words.next()?)?)),
         Kind::Wake => Some(What::Wake(words.small()?)),
-        Kind::Lost => Some(What::Lost(loss_of(words)?)),
+        Kind::Lost => loss_of(words),
     }
 }
 
-fn loss_of(words: &mut Words) -> Option<Loss> {
-    let events = words.number()?;
-    let from = words.number()?;
-    Some(Loss { events, from })
+fn loss_of(words: &mut Words) -> Option<What> {
+    let (Some(events), Some(from)) = (words.number(), words.number()) else {
+        return None;
+    };
+    Some(What::Lost(Loss { events, from }))
 }
 
-fn switch_of(words: &mut Words) -> Option<Switch> {
-    let level = level_in(words)?;
-    let state = words.next()?;
-    let is_asleep = is_asleep_in(state)?;
-    let next = words.small()?;
-    let next_level = level_in(words)?;
-    Some(Switch {
+fn switch_of(words: &mut Words) -> Option<What> {
+    let (Some(level), Some(state)) = (level_in(words), words.next()) else {
+        return None;
+    };
+    let (Some(next), Some(next_level)) = (words.small(), level_in(words)) else {
+        return None;
+    };
+    Some(What::Switch(Switch {
         level,
-        is_asleep,
+        is_asleep: is_asleep_in(state)?,
         is_blocked: matches!(state, [b'S' | b'D']),
         has_ended: matches!(state, [b'X' | b'Z']),
         next,
         next_level,
-    })
+    }))
 }
+
+/// The letters of the states in which a task isn't preempted.
+const STOPPED: &[u8] = b"SDTtXZPI";
 
 /// Returns whether a task in this state has stopped by itself.
 fn is_asleep_in(state: &[u8]) -> Option<bool> {
     match state {
-        b"R" => Some(false),
-        [
-            b'R' | b'S' | b'D' | b'T' | b't' | b'X' | b'Z' | b'P' | b'I',
-            b'+',
-        ] => Some(false),
-        [b'S' | b'D' | b'T' | b't' | b'X' | b'Z' | b'P' | b'I'] => Some(true),
+        b"R" | b"R+" => Some(false),
+        [letter] if STOPPED.contains(letter) => Some(true),
+        [letter, b'+'] if STOPPED.contains(letter) => Some(false),
         _ => address_of(state).map(|_bits| true),
     }
 }
 
-fn boost_of(words: &mut Words) -> Option<Boost> {
-    let task = words.small()?;
-    let before = level_in(words)?;
+fn boost_of(words: &mut Words) -> Option<What> {
+    let (Some(task), Some(before)) = (words.small(), level_in(words)) else {
+        return None;
+    };
     let after = level_in(words)?;
-    Some(Boost {
+    Some(What::Boost(Boost {
         task,
         before,
         after,
-    })
+    }))
 }
 
-fn call_of(words: &mut Words) -> Option<u64> {
-    let address = address_of(words.next()?)?;
-    match words.next()? {
-        b"private" | b"shared" => Some(address),
-        _ => None,
+/// The words for the threads that may use a futex: those of its process, or all.
+const SCOPES: [&[u8]; 2] = [b"private", b"shared"];
+
+fn call_of(call: FutexCall, words: &mut Words) -> Option<What> {
+    let (Some(word), Some(scope)) = (words.next(), words.next()) else {
+        return None;
+    };
+    let address = address_of(word)?;
+    if !SCOPES.contains(&scope) {
+        return None;
     }
+    Some(match call {
+        FutexCall::Lock => What::Lock(address),
+        FutexCall::TryLock => What::TryLock(address),
+        FutexCall::Unlock => What::Unlock(address),
+        FutexCall::Wait => What::Wait(address),
+    })
 }
 
 /// Returns what a call returned, by its result: -110 is ETIMEDOUT, and -11 EAGAIN.
 fn answer_of(word: &[u8]) -> Option<Answer> {
-    let _size = number_of(without_sign(word))?;
-    match word {
-        b"-110" => Some(Answer::TimedOut),
-        b"-11" => Some(Answer::Changed),
-        [b'-', ..] => Some(Answer::Failed),
-        _ => Some(Answer::Success),
-    }
-}
-
-fn without_sign(word: &[u8]) -> &[u8] {
-    match word {
-        [b'-', rest @ ..] => rest,
-        _ => word,
-    }
+    let [b'-', error @ ..] = word else {
+        let _count = number_of(word)?;
+        return Some(Answer::Success);
+    };
+    Some(match number_of(error)? {
+        110 => Answer::TimedOut,
+        11 => Answer::Changed,
+        _ => Answer::Failed,
+    })
 }
 
 /// Returns the level of the kernel's priority that the next word spells: -1 to 140, of which a lower one is higher.
@@ -211,9 +225,10 @@ fn level_in(words: &mut Words) -> Option<u8> {
     if word == b"-1".as_slice() {
         return Some(100);
     }
-    match number_of(word)? {
-        priority if priority < 99 => Some(99 - priority as u8),
-        99..=140 => Some(0),
-        _ => None,
+    let priority = number_of(word)?;
+    if priority <= 140 {
+        Some(99u8.saturating_sub(priority as u8))
+    } else {
+        None
     }
 }

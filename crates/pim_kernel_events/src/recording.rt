@@ -17,6 +17,16 @@ const LATEST_VERSION: u64 = 2;
 /// How many lines the head has.
 const HEAD_LINES: u64 = 6;
 
+/// The words with which they begin.
+const HEAD: [&[u8]; 6] = [
+    b"pim-kernel",
+    b"kernel",
+    b"clock",
+    b"process",
+    b"began",
+    b"cpus",
+];
+
 /// What the kernel did while a program was recorded.
 #[derive(Drop)]
 pub struct Recording {
@@ -103,27 +113,30 @@ impl Recording {
     /// Takes a line of the head.
     fn take_head(&mut self, line: &[u8], number: u64) -> Option<LineFault> {
         let mut words = Words::of(line);
-        let name = words.next();
+        let place = (number as usize).saturating_sub(1);
+        if words.next() != HEAD.get(place).copied() {
+            return Some(if number == 1 {
+                LineFault::NotARecording
+            } else {
+                LineFault::Head
+            });
+        }
         match number {
-            1 => self.take_version(name, &mut words),
-            2 if name == Some(b"kernel".as_slice()) => None,
-            3 if name == Some(b"clock".as_slice()) => clock_fault(&mut words),
-            4 if name == Some(b"process".as_slice()) => keep(&mut self.process, &mut words),
-            5 if name == Some(b"began".as_slice()) => {
+            1 => self.take_version(&mut words),
+            2 => None,
+            3 => clock_fault(&mut words),
+            4 => keep(&mut self.process, &mut words),
+            5 => {
                 let fault = keep(&mut self.began, &mut words);
                 self.ended = self.began;
                 fault
             }
-            6 if name == Some(b"cpus".as_slice()) => keep(&mut self.cpus, &mut words),
-            _ => Some(LineFault::Head),
+            _ => keep(&mut self.cpus, &mut words),
         }
     }
 
-    /// Takes the first line.
-    fn take_version(&mut self, name: Option<&[u8]>, words: &mut Words) -> Option<LineFault> {
-        if name != Some(b"pim-kernel".as_slice()) {
-            return Some(LineFault::NotARecording);
-        }
+    /// Takes the number of the version.
+    fn take_version(&mut self, words: &mut Words) -> Option<LineFault> {
         match words.number() {
             Some(version @ OLDEST_VERSION..=LATEST_VERSION) if words.is_done() => {
                 self.version = version;

@@ -169,7 +169,7 @@ impl Track {
         is_unlock: bool,
         address: u64,
     ) -> Result<(), AllocError> {
-        self.end_call(sign.time);
+        self.end_call(sign);
         Ok(
             self.calls.push(Call {
                 is_unlock,
@@ -181,11 +181,12 @@ impl Track {
         )
     }
 
-    /// The last call returned, if it hadn't.
-    pub(crate) fn end_call(&mut self, time: u64) {
+    /// The task runs, and its last call returned, if it hadn't.
+    pub(crate) fn end_call(&mut self, sign: Sign) {
+        self.see(sign);
         if let Some(call) = self.calls.last_mut() {
             if call.end.is_none() {
-                call.end = Some(time);
+                call.end = Some(sign.time);
             }
         }
     }

@@ -87,29 +87,23 @@ impl Tracks {
             return Ok(());
         }
         let place = self.show(event.task, sign.cpu)?;
+        let track = &mut self.list[place];
         match event.what {
             What::Switch(switch) => {
-                self.list[place].leave(sign, switch.level, switch.is_asleep)?;
+                track.leave(sign, switch.level, switch.is_asleep)?;
                 let place = self.show(switch.next, sign.cpu)?;
                 self.list[place].enter(sign, switch.next_level);
                 Ok(())
             }
             What::Boost(boost) => {
-                self.list[place].see(sign);
+                track.see(sign);
                 let place = self.place_of(boost.task)?;
                 self.list[place].change(sign, boost.before, boost.after)
             }
-            What::Lock(address) | What::TryLock(address) => {
-                self.list[place].see(sign);
-                self.list[place].call(sign, false, address)
-            }
-            What::Unlock(address) => {
-                self.list[place].see(sign);
-                self.list[place].call(sign, true, address)
-            }
+            What::Lock(address) | What::TryLock(address) => track.call(sign, false, address),
+            What::Unlock(address) => track.call(sign, true, address),
             What::Wait(_) | What::Return(_) => {
-                self.list[place].see(sign);
-                self.list[place].end_call(event.time);
+                track.end_call(sign);
                 Ok(())
             }
             What::Lost(_) | What::Wake(_) => Ok(()),
