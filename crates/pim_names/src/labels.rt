@@ -3,7 +3,7 @@
 use std::alloc::{AllocError, Global};
 
 /// A step of a piece, each counted from 1. Step 0 is the piece's begin.
-#[derive(Clone, Copy, PartialEq, Eq, PartialOrd, Ord)]
+#[derive(Clone, Copy)]
 pub struct Moment {
     pub piece: u64,
     pub step: u64,
@@ -58,7 +58,7 @@ impl Labels {
         let list = self.lists.get(usize::from(number))?;
         let mut found = list.first()?;
         for label in list.iter() {
-            if label.from <= moment {
+            if (label.from.piece, label.from.step) <= (moment.piece, moment.step) {
                 found = label;
             }
         }

@@ -219,34 +219,29 @@ impl<'a> Piece<'a> {
 
 /// Returns the number of a task, that of its thread in the kernel, and the thread's name.
 fn thread_of<'a>(words: &mut Words<'a>) -> Option<(u16, u64, &'a [u8])> {
-    let number = trace_number(words)?;
-    let mut parts = words.next()?.split(|byte| *byte == b'/');
-    let _process = number_of(parts.next()?)?;
-    let kernel = number_of(parts.next()?)?;
-    if parts.next().is_some() {
+    let (Some(number), Some(numbers)) = (trace_number(words), words.next()) else {
         return None;
-    }
+    };
+    let slash = numbers.iter().position(|byte| *byte == b'/')?;
+    let _process = number_of(&numbers[..slash])?;
+    let kernel = number_of(&numbers[slash + 1..])?;
     Some((number, kernel, last_name(words)?))
 }
 
 /// Returns the number of a mutex, and where it was initialised.
 fn mutex_of<'a>(words: &mut Words<'a>) -> Option<(u16, &'a [u8])> {
-    let number = trace_number(words)?;
-    if !is_protocol(words.next()?) {
+    let (Some(number), Some(protocol)) = (trace_number(words), words.next()) else {
         return None;
-    }
+    };
     let _address = address_of(words.next()?)?;
-    let _process = words.number()?;
-    let place = last_name(words)?;
-    if place.is_empty() {
+    let (Some(_process), Some(place)) = (words.number(), last_name(words)) else {
         return None;
+    };
+    if PROTOCOLS.contains(&protocol) && !place.is_empty() {
+        Some((number, place))
+    } else {
+        None
     }
-    Some((number, place))
-}
-
-/// Returns whether a word names a protocol.
-fn is_protocol(word: &[u8]) -> bool {
-    PROTOCOLS.iter().any(|protocol| word == *protocol)
 }
 
 /// Returns the next word, if it is the last one of the line and a name: only letters, digits and signs of ASCII.
