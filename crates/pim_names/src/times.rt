@@ -40,7 +40,6 @@ impl Times {
 
     /// Adds the time of the next step, or the least one that is later than that of the step before. Returns whether there
     /// is one.
-    #[tactic(auto, using(crate::proofs::Adding::added_later, crate::proofs::Adding::added_below))]
     pub(crate) fn add(&mut self, time: u64) -> Result<bool, AllocError> {
         let time = time.max(self.next);
         let Some(next) = time.checked_add(1) else {
