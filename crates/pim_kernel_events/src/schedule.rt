@@ -115,7 +115,6 @@ impl Schedule {
     }
 
     /// Adds what there is of a stretch between the two times, if it is the next one.
-    #[tactic(auto, using(crate::proofs::Adding::added_apart, crate::proofs::Adding::added_done))]
     fn add(&mut self, ran: &Ran) -> Result<(), AllocError>
         ensures from { self.new.from ≡ self.old.from }
         ensures until { self.new.until ≡ self.old.until }

@@ -43,7 +43,6 @@ impl Stretches {
     }
 
     /// Adds a stretch, if it is the next one.
-    #[tactic(auto, using(crate::proofs::Pushing::pushed_apart, crate::proofs::Pushing::pushed_within))]
     pub(crate) fn add(&mut self, stretch: Stretch) -> Result<(), AllocError> {
         if !self.is_next(&stretch) {
             return Ok(());
