@@ -8,6 +8,10 @@ const HEADER_BYTES: usize = 4096;
 const SLOT_BYTES: usize = 32;
 /// The slots of a chunk, of which the first is its head.
 const CHUNK_SLOTS: usize = 512;
+/// The records of a chunk.
+const CHUNK_RECORDS: usize = 511;
+/// The bytes of a chunk.
+const CHUNK_BYTES: usize = 16_384;
 /// The process of all threads.
 const PROCESS: u32 = 1;
 
@@ -56,10 +60,10 @@ impl Chunks {
             if places.push(place).is_err() {
                 return Err(AllocError);
             }
-            chunks = chunks.saturating_add(thread.1.div_ceil(CHUNK_SLOTS - 1));
+            chunks = chunks.saturating_add(thread.1.div_ceil(CHUNK_RECORDS));
         }
         let length = chunks
-            .saturating_mul(SLOT_BYTES * CHUNK_SLOTS)
+            .saturating_mul(CHUNK_BYTES)
             .saturating_add(HEADER_BYTES);
         let mut log = Chunks {
             bytes: vec![in alloc; 0; length]?,
@@ -87,15 +91,15 @@ impl Chunks {
 
     /// Adds a record of the thread at this place of the list.
     pub(crate) fn add(&mut self, thread: usize, entry: &Entry) {
-        let Some(place) = self.places.get(thread).copied() else {
+        let Some(next) = self.places.get_mut(thread) else {
             return;
         };
-        let chunk = place
-            .chunk
-            .saturating_add(place.records / (CHUNK_SLOTS - 1));
-        let slot = place.records % (CHUNK_SLOTS - 1);
+        let place = *next;
+        next.records = place.records.saturating_add(1);
+        let chunk = place.chunk.saturating_add(place.records / CHUNK_RECORDS);
+        let slot = place.records % CHUNK_RECORDS;
         let head = chunk
-            .saturating_mul(SLOT_BYTES * CHUNK_SLOTS)
+            .saturating_mul(CHUNK_BYTES)
             .saturating_add(HEADER_BYTES);
         if slot == 0 {
             self.put_head(head, thread, &place);
@@ -108,15 +112,12 @@ impl Chunks {
         self.put_u32(at.saturating_add(24), entry.value);
         self.put(at.saturating_add(28), &entry.detail.to_le_bytes());
         self.put(at.saturating_add(30), &[entry.event, entry.how]);
-        self.next_number = self.next_number.saturating_add(1);
-        if thread < self.places.len() {
-            self.places[thread].records = place.records.saturating_add(1);
-        }
+        self.next_number = number.saturating_add(1);
     }
 
     /// Begins a chunk of a thread.
     fn put_head(&mut self, at: usize, thread: usize, place: &Place) {
-        let index = place.records / (CHUNK_SLOTS - 1);
+        let index = place.records / CHUNK_RECORDS;
         self.put(at, b"pimChunk");
         self.put_u32(at.saturating_add(8), PROCESS);
         self.put_u32(at.saturating_add(12), place.task);

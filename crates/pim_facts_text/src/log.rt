@@ -50,27 +50,16 @@ pub fn mutex_of(place: usize) -> usize {
     place.saturating_add(1)
 }
 
+/// The threads of a log, each with the number of its records, and by the number of a thread its place there.
+type Threads = (Vec<(u32, usize)>, HashMap<u32, usize>);
+
 /// Returns the log that a recorder of this program would have written.
 ///
 /// # Errors
 ///
 /// Returns `AllocError` if out of memory.
 pub fn log_of(alloc: Global, text: &Text) -> Result<Vec<u8>, AllocError> {
-    let places = places_of(alloc, text)?;
-    let mut threads = vec![in alloc; (OWN_TASK, 1usize); 1]?;
-    for line in &text.lines {
-        if let Line::Thread { number, .. } = line {
-            if threads.push((*number, 0)).is_err() {
-                return Err(AllocError);
-            }
-        }
-    }
-    for line in &text.lines {
-        let place = place_of(&places, line);
-        if place < threads.len() {
-            threads[place].1 = threads[place].1.saturating_add(1);
-        }
-    }
+    let (threads, places) = threads_of(alloc, text)?;
     let mut log = Chunks::new(alloc, &threads)?;
     log.add(0, &thread_entry(OWN_TASK, first_level(text)));
     for line in &text.lines {
@@ -79,19 +68,24 @@ pub fn log_of(alloc: Global, text: &Text) -> Result<Vec<u8>, AllocError> {
     Ok(log.end())
 }
 
-/// Returns by the number of a thread its place among those of the log.
-fn places_of(alloc: Global, text: &Text) -> Result<HashMap<u32, usize>, AllocError> {
+/// Returns the threads of the log, each with the number of its records, and by the number of a thread its place there.
+fn threads_of(alloc: Global, text: &Text) -> Result<Threads, AllocError> {
+    let mut threads = vec![in alloc; (OWN_TASK, 1usize); 1]?;
     let mut places = HashMap::new(alloc);
-    let mut next = 1usize;
     for line in &text.lines {
         if let Line::Thread { number, .. } = line {
-            if places.insert(*number, next).is_err() {
+            let place = threads.len();
+            if threads.push((*number, 0)).is_err() || places.insert(*number, place).is_err() {
                 return Err(AllocError);
             }
-            next = next.saturating_add(1);
         }
     }
-    Ok(places)
+    for line in &text.lines {
+        if let Some(thread) = threads.get_mut(place_of(&places, line)) {
+            thread.1 = thread.1.saturating_add(1);
+        }
+    }
+    Ok((threads, places))
 }
 
 /// Returns the place of the thread that puts the record of a line.
