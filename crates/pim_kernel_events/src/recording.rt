@@ -57,7 +57,6 @@ impl Recording {
     ///
     /// Returns `Line` with the number of the first line that is refused, `NoHead` if there are fewer lines than a head
     /// has, and `Memory` if out of memory.
-    #[tactic(auto, using(crate::proofs::Counting::newline_more, crate::proofs::Counting::other_same))]
     pub fn read(alloc: Global, bytes: &[u8]) -> Result<Recording, TextFault>
         ensures { IfErr result (IsFault bytes.now) }
     {

@@ -43,7 +43,6 @@ impl Names {
     ///
     /// Returns `Line` with the number of the first line that is wrong, also where it lacks its newline, and `Memory` if
     /// out of memory.
-    #[tactic(auto, using(crate::proofs::Counting::newline_more, crate::proofs::Counting::other_same))]
     pub fn read(alloc: Global, bytes: &[u8]) -> Result<Names, NamesFault>
         ensures { IfErr result (IsFault bytes.now) }
     {
