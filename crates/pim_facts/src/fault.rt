@@ -3,16 +3,13 @@ ghost use Rattle.std.specs.Prelude.{◌≡◌};
 ghost use Rattle.pim_facts.specs.declared.fault.IdsFault.TheVariants as ids;
 
 use std::alloc::AllocError;
-use thiserror::Error;
 
 /// Why it isn't known whom the records of a log are about.
-#[derive(Clone, Copy, Debug, PartialEq, Eq, Error)]
+#[derive(Clone, Copy)]
 pub enum IdsFault {
     /// The thread of the record with this number has a number above [`MAX_THREADS`](crate::MAX_THREADS).
-    #[error("record {0}: its thread has a number above 4194304")]
     TooManyThreads(u64),
     /// Out of memory.
-    #[error("out of memory")]
     Memory,
 }
 

@@ -32,7 +32,7 @@ pub enum HeaderFault {
 }
 
 /// Why a slot, which is a chunk's head or has room for a record, is refused: the first of these that applies.
-#[derive(Clone, Copy, Debug, PartialEq, Eq, Error)]
+#[derive(Clone, Copy, Debug, Error)]
 pub enum SlotFault {
     /// The head of a chunk has a wrong mark, or a thread that there isn't.
     #[error("the head of the chunk is damaged")]
@@ -52,7 +52,7 @@ pub enum SlotFault {
 }
 
 /// Why bytes are not read as a log.
-#[derive(Clone, Copy, Debug, PartialEq, Eq, Error)]
+#[derive(Clone, Copy, Debug, Error)]
 pub enum LogFault {
     /// The header is refused.
     #[error("{0}")]

@@ -7,7 +7,7 @@ use std::alloc::AllocError;
 use thiserror::Error;
 
 /// Why a log isn't imported.
-#[derive(Clone, Copy, Debug, PartialEq, Eq, Error)]
+#[derive(Clone, Copy, Debug, Error)]
 pub enum ImportFault {
     /// The record with this number contradicts those before it.
     #[error("record {0}: it contradicts the records before it")]
@@ -36,16 +36,13 @@ impl From<AllocError> for ImportFault {
 }
 
 /// Why spans don't get numbers.
-#[derive(Clone, Copy, Debug, PartialEq, Eq, Error)]
+#[derive(Clone, Copy, PartialEq, Eq)]
 pub enum SharingFault {
     /// The span at this index begins before the one in front of it.
-    #[error("index {0}: it begins before the one in front of it")]
     OutOfOrder(usize),
     /// When the span at this index begins, as many earlier ones last as there are numbers.
-    #[error("index {0}: too many last at one time")]
     Crowded(usize),
     /// Out of memory.
-    #[error("out of memory")]
     Memory,
 }
 
