@@ -19,8 +19,8 @@ use Rattle.pim_builder.specs.Showing.{HoldsOf, Joins, JoinsQueueBy, ShowsWhat, S
 use Rattle.pim_builder.specs.Views.{held, task_now, mutex_now}
 use Rattle.pim_numbers.specs.Numbered.{number_in}
 use Rattle.pim_builder.specs.Shown.{as_thread, as_mutex, given_to, taken_by, holders_after, nobody, threads_after}
-use Rattle.pim_builder.specs.Shown.{mutexes_after, Dated, Stage, AppearsBetween, LeadsTo}
-use Rattle.pim_builder.specs.Shown.{IsShownAt, AreShownBy, AreShownIn, stage_of, view_at, HasHolders, AreShown, Extends}
+use Rattle.pim_builder.specs.Shown.{mutexes_after, Dated, TracePoint, AppearsBetween, LeadsTo}
+use Rattle.pim_builder.specs.Shown.{IsShownAt, AreShownBy, AreShownIn, trace_point_of, view_at, HasHolders, AreShown, Extends}
 use Rattle.pim_builder.specs.declared.builder.Appearance.{Appearance}
 use Rattle.pim_builder.specs.declared.builder.Context.{Context}
 use Rattle.pim_builder.specs.declared.builder.Who.{Who}
@@ -79,9 +79,9 @@ numbered context b t h has = go (number_in numbers t) has
     go (Some k) within =
         ap is_some (nth-get_or b.threads k (k - 1) None (omega (arith, within.0)) (omega (arith, within.0, within.1, many)))
 
--- ---- from stage to stage
+-- ---- from point to point
 
-leads_refl : (time : ℕ) (s : Stage) → LeadsTo time s s
+leads_refl : (time : ℕ) (s : TracePoint) → LeadsTo time s s
 leads_refl time s = record {
   point = goes_on_refl time s.point;
   further = [];
@@ -89,7 +89,7 @@ leads_refl time s = record {
   between = All-nil (AppearsBetween s.point s.point);
 }
 
-leads_trans : (time : ℕ) (s t u : Stage) → LeadsTo time s t → LeadsTo time t u → LeadsTo time s u
+leads_trans : (time : ℕ) (s t u : TracePoint) → LeadsTo time s t → LeadsTo time t u → LeadsTo time s u
 leads_trans time s t u a b =
     let first : steps_of s.point ≤ steps_of t.point = more_steps s.point t.point a.point.reached in
     let second : steps_of t.point ≤ steps_of u.point = more_steps t.point u.point b.point.reached in
@@ -105,7 +105,7 @@ leads_trans time s t u a b =
     }
 
 pub extends_refl : (context : Context) (time : ℕ) (a : BuilderState) → Extends context time a a
-extends_refl context time a = record { leads = leads_refl time (stage_of a); holders = λ h. h }
+extends_refl context time a = record { leads = leads_refl time (trace_point_of a); holders = λ h. h }
 
 pub extends_trans :
     (context : Context) (time : ℕ) (a b c : BuilderState)
@@ -113,7 +113,7 @@ pub extends_trans :
     → Extends context time b c
     → Extends context time a c
 extends_trans context time a b c e f = record {
-  leads = leads_trans time (stage_of a) (stage_of b) (stage_of c) e.leads f.leads;
+  leads = leads_trans time (trace_point_of a) (trace_point_of b) (trace_point_of c) e.leads f.leads;
   holders = λ h. f.holders (e.holders h);
 }
 
@@ -169,7 +169,7 @@ one_appears :
     → it.step ≡ steps_of a.pieces
     → b.pieces ≡ a.pieces
     → b.appearances ≡ a.appearances ++ it ∷ []
-    → LeadsTo time (stage_of a) (stage_of b)
+    → LeadsTo time (trace_point_of a) (trace_point_of b)
 one_appears time a b it now same more = record {
   point = subst (GoesOn time a.pieces) (sym same) (goes_on_refl time a.pieces);
   further = it ∷ [];
@@ -254,7 +254,7 @@ by_holders :
 by_holders context b h P holds =
     subst (λ ms. P (threads_after context b.appearances) ms) h.mutexes (subst (λ ts. P ts b.mutexes) h.threads holds)
 
-shown_now : (context : Context) (b : BuilderState) (fact : Fact) → HasHolders context b → Shows context b fact → IsShownAt context fact (stage_of b)
+shown_now : (context : Context) (b : BuilderState) (fact : Fact) → HasHolders context b → Shows context b fact → IsShownAt context fact (trace_point_of b)
 shown_now context b fact h shows = inl (by_holders context b h (λ ts ms.
     ShowsWhat b.pieces.piece.replay (priority_of context.priorities.now)
     (λ t. held ts t (number_in context.numbering.now.threads t))
@@ -264,23 +264,23 @@ unset_now :
     (context : Context) (b : BuilderState) (fact : Fact)
     → HasHolders context b
     → SetsNone (task_now context b) (mutex_now context b) fact.what fact.thread
-    → IsShownAt context fact (stage_of b)
+    → IsShownAt context fact (trace_point_of b)
 unset_now context b fact h unset = inr (by_holders context b h (λ ts ms.
     SetsNone (λ t. held ts t (number_in context.numbering.now.threads t))
     (λ m. held ms m (number_in context.numbering.now.mutexes m)) fact.what fact.thread) unset)
 
 -- where facts are shown, there is a time for each step
-timed_by : (context : Context) (facts : List Dated) (now : Stage) → AreShownBy context facts now → HasTimes now.point.piece
+timed_by : (context : Context) (facts : List Dated) (now : TracePoint) → AreShownBy context facts now → HasTimes now.point.piece
 timed_by context [] now begin = ap (λ ts. length ts) begin.times ∙ sym (ap (λ es. length es) begin.steps)
 timed_by context (latest ∷ facts) now shown = shown.3
 
 -- and queues are in order
-ordered_by : (context : Context) (facts : List Dated) (now : Stage) → AreShownBy context facts now → IsInOrder now.point.piece.replay
+ordered_by : (context : Context) (facts : List Dated) (now : TracePoint) → AreShownBy context facts now → IsInOrder now.point.piece.replay
 ordered_by context [] now begin = begin.order
 ordered_by context (latest ∷ facts) now shown = shown.6
 
 -- who has the numbers is who appeared last with them
-view_by : (context : Context) (b : BuilderState) → HasHolders context b → view_of b ≡ view_at context (stage_of b)
+view_by : (context : Context) (b : BuilderState) → HasHolders context b → view_of b ≡ view_at context (trace_point_of b)
 view_by context b h = ap₂ (λ ts ms. record { threads = ts; mutexes = ms; program = program_at b.pieces }) h.threads h.mutexes
 
 -- one fact more
@@ -299,14 +299,14 @@ shown_more context fact time a b is_used extends shows unset keeps joins given f
     record {
       holders = extends.holders shown.holders;
       shown = (
-        stage_of a,
+        trace_point_of a,
         shown.shown,
         extends.leads,
-        extends.leads.point.timed (timed_by context facts (stage_of a) shown.shown),
+        extends.leads.point.timed (timed_by context facts (trace_point_of a) shown.shown),
         is_shown is_used shows unset,
-        subst (λ v. KeepsOthers context fact v (view_at context (stage_of b))) (view_by context a shown.holders)
+        subst (λ v. KeepsOthers context fact v (view_at context (trace_point_of b))) (view_by context a shown.holders)
             (subst (KeepsOthers context fact (view_of a)) (view_by context b (extends.holders shown.holders)) keeps),
-        extends.leads.point.order (ordered_by context facts (stage_of a) shown.shown),
+        extends.leads.point.order (ordered_by context facts (trace_point_of a) shown.shown),
         by_holders context b (extends.holders shown.holders) (λ ts ms.
             JoinsQueueBy b.pieces.piece.replay (λ t. held ts t (number_in context.numbering.now.threads t))
             (λ m. held ms m (number_in context.numbering.now.mutexes m)) fact.what fact.thread) joins,
@@ -316,7 +316,7 @@ shown_more context fact time a b is_used extends shows unset keeps joins given f
       );
     }
   where
-    is_shown : (u : Bool) → (IsTrue u → Shows context b fact) → (u ≡ false → SetsNone (task_now context b) (mutex_now context b) fact.what fact.thread) → IsShownAt context fact (stage_of b)
+    is_shown : (u : Bool) → (IsTrue u → Shows context b fact) → (u ≡ false → SetsNone (task_now context b) (mutex_now context b) fact.what fact.thread) → IsShownAt context fact (trace_point_of b)
     is_shown true shows unset = shown_now context b fact (extends.holders shown.holders) (shows refl)
     is_shown false shows unset = unset_now context b fact (extends.holders shown.holders) (unset refl)
 

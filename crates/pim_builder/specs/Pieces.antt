@@ -60,8 +60,8 @@ HasAsMany p q =
     × (length q.piece.replay.state.protocol ≡ length p.piece.replay.state.protocol)
 
 -- a piece has room for 1,024 steps more, as many as a fact may make
-abbrev pub HasRoom : Piece → Type 0
-HasRoom piece = length piece.replay.entries + 1024 ≤ MAX_STEPS
+abbrev pub HasRoomForFact : Piece → Type 0
+HasRoomForFact piece = length piece.replay.entries + 1024 ≤ MAX_STEPS
 
 -- there is a time for each step
 abbrev pub HasTimes : Piece → Type 0

@@ -62,73 +62,73 @@ pub record Dated : Type 0 where
   pub time : ℕ
 
 -- a point of a trace, and those who appear in it by this point
-pub record Stage : Type 0 where
+pub record TracePoint : Type 0 where
   pub point : Point
   pub appeared : List Appearance
 
 -- a trace at its begin: no step, and nobody who appears
-pub record IsBegin (stage : Stage) : Type 0 where
-  pub before : stage.point.before ≡ []
-  pub steps : stage.point.piece.replay.entries ≡ []
-  pub order : IsInOrder stage.point.piece.replay
-  pub times : stage.point.piece.times ≡ []
-  pub appeared : stage.appeared ≡ []
+pub record IsBegin (here : TracePoint) : Type 0 where
+  pub before : here.point.before ≡ []
+  pub steps : here.point.piece.replay.entries ≡ []
+  pub order : IsInOrder here.point.piece.replay
+  pub times : here.point.piece.times ≡ []
+  pub appeared : here.appeared ≡ []
 
 -- one appears between two points: the step before which it does is none before the first point, nor behind the second
 pub record AppearsBetween (early late : Point) (one : Appearance) : Type 0 where
   pub from : steps_of early ≤ one.step
   pub upto : one.step ≤ steps_of late
 
--- The trace goes on from one stage to another, by steps that happen at this time. Who appears there appears between the two.
-pub record LeadsTo (time : ℕ) (early late : Stage) : Type 0 where
+-- The trace goes on from one point to another, by steps that happen at this time. Who appears there appears between the two.
+pub record LeadsTo (time : ℕ) (early late : TracePoint) : Type 0 where
   pub point : GoesOn time early.point late.point
   pub further : List Appearance
   pub appeared : late.appeared ≡ early.appeared ++ further
   pub between : All (AppearsBetween early.point late.point) further
 
--- who has the numbers at a stage, and the program
-abbrev pub view_at : Context → Stage → View
-view_at context stage = record {
-  threads = threads_after context stage.appeared;
-  mutexes = mutexes_after context stage.appeared;
-  program = program_at stage.point;
+-- who has the numbers at a point, and the program
+abbrev pub view_at : Context → TracePoint → View
+view_at context here = record {
+  threads = threads_after context here.appeared;
+  mutexes = mutexes_after context here.appeared;
+  program = program_at here.point;
 }
 
--- the task that a thread is at a stage, and the number that a mutex of the log has
-abbrev pub task_at : Context → Stage → ℕ → Option ℕ
-task_at context stage = task_in context (view_at context stage)
+-- the task that a thread is at a point, and the number that a mutex of the log has
+abbrev pub task_at : Context → TracePoint → ℕ → Option ℕ
+task_at context here = task_in context (view_at context here)
 
-abbrev pub mutex_at : Context → Stage → ℕ → Option ℕ
-mutex_at context stage = mutex_in context (view_at context stage)
+abbrev pub mutex_at : Context → TracePoint → ℕ → Option ℕ
+mutex_at context here = mutex_in context (view_at context here)
 
--- at a stage the trace shows a fact, or that sets the level or ceiling of one who takes no part by then
-abbrev pub IsShownAt : Context → Fact → Stage → Type 0
-IsShownAt context fact stage =
-    ShowsWhat stage.point.piece.replay (priority_of context.priorities.now) (task_at context stage) (mutex_at context stage)
+-- at a point the trace shows a fact, or that sets the level or ceiling of one who takes no part by then
+abbrev pub IsShownAt : Context → Fact → TracePoint → Type 0
+IsShownAt context fact here =
+    ShowsWhat here.point.piece.replay (priority_of context.priorities.now) (task_at context here) (mutex_at context here)
     fact.what fact.thread
-    ⊎ SetsNone (task_at context stage) (mutex_at context stage) fact.what fact.thread
+    ⊎ SetsNone (task_at context here) (mutex_at context here) fact.what fact.thread
 
--- A trace comes from its begin to this stage by these facts, the latest first: from the stage of the one before the latest,
+-- A trace comes from its begin to this point by these facts, the latest first: from the point of the one before the latest,
 -- or from the begin, by steps at the time of the latest, which is shown here. What this fact isn't about stays. Those in
 -- a queue have tickets in the order in which they began to wait; whoever begins to wait is queued, if the model allows it,
 -- and so are all who wait for a mutex that the fact gives to an owner.
-abbrev pub AreShownBy : Context → List Dated → Stage → Type 0
+abbrev pub AreShownBy : Context → List Dated → TracePoint → Type 0
 AreShownBy context [] now = IsBegin now
 AreShownBy context (latest ∷ facts) now =
-    (before : Stage) × AreShownBy context facts before × LeadsTo latest.time before now × HasTimes now.point.piece
+    (before : TracePoint) × AreShownBy context facts before × LeadsTo latest.time before now × HasTimes now.point.piece
     × IsShownAt context latest.fact now × KeepsOthers context latest.fact (view_at context before) (view_at context now)
     × IsInOrder now.point.piece.replay
     × JoinsQueueBy now.point.piece.replay (task_at context now) (mutex_at context now) latest.fact.what latest.fact.thread
     × AllJoinBy before.point now.point (mutex_at context now) latest.fact.what latest.fact.thread
 
--- the same of the pieces of a trace and of all who appear in it: it ends at the stage of the latest fact
+-- the same of the pieces of a trace and of all who appear in it: it ends at the point of the latest fact
 abbrev pub AreShownIn : Context → List Dated → List Piece → List Appearance → Type 0
 AreShownIn context facts pieces appearances =
     (end : Point) × EndWith end pieces × AreShownBy context facts (record { point = end; appeared = appearances })
 
--- the stage of the trace that is being made
-abbrev pub stage_of : BuilderState → Stage
-stage_of builder = record { point = builder.pieces; appeared = builder.appearances }
+-- the point of the trace that is being made
+abbrev pub trace_point_of : BuilderState → TracePoint
+trace_point_of builder = record { point = builder.pieces; appeared = builder.appearances }
 
 -- each number is held by the one who appeared last of those that have it
 pub record HasHolders (context : Context) (builder : BuilderState) : Type 0 where
@@ -138,9 +138,9 @@ pub record HasHolders (context : Context) (builder : BuilderState) : Type 0 wher
 -- the trace that is being made shows the facts, the latest first
 pub record AreShown (context : Context) (facts : List Dated) (builder : BuilderState) : Type 0 where
   pub holders : HasHolders context builder
-  pub shown : AreShownBy context facts (stage_of builder)
+  pub shown : AreShownBy context facts (trace_point_of builder)
 
 -- the trace goes on by steps at this time, and who appears takes its number
 pub record Extends (context : Context) (time : ℕ) (old new : BuilderState) : Type 0 where
-  pub leads : LeadsTo time (stage_of old) (stage_of new)
+  pub leads : LeadsTo time (trace_point_of old) (trace_point_of new)
   pub holders : HasHolders context old → HasHolders context new

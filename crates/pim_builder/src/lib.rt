@@ -1,7 +1,7 @@
 //! From facts to the pieces of a trace.
 //!
 //! A [`TraceBuilder`] makes the steps of each fact by a [replay](pim_replay::Replay), and cuts the
-//! trace into [`Piece`]s of at most 65,536 steps. Behind the steps of a fact the
+//! trace into [`Piece`]s, since a trace has at most 65,536 steps. Behind the steps of a fact the
 //! replay shows it.
 //!
 //! ```text

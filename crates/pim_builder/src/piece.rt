@@ -3,7 +3,7 @@
 use crate::times::Times;
 use pim_replay::Replay;
 
-/// A piece of the trace of a log: a trace of its own, with at most 65,536 steps.
+/// A piece of the trace of a log: a trace of its own. That it has at most 65,536 steps is tested, not proved.
 #[derive(Drop)]
 pub struct Piece {
     /// The steps, with what was declared before them.

@@ -5,7 +5,7 @@ ghost use Rattle.pim_replay.specs.Replays.{observed, program_of};
 ghost use Rattle.pim_replay.specs.Possible.{CanDo, NoneIsRecursive};
 ghost use Rattle.pim_replay.specs.declared.fault.ReplayFault.TheVariants as replay;
 ghost use Rattle.pim_numbers.specs.Faults.{IsContradiction, NamesOnly};
-ghost use Rattle.pim_builder.specs.Pieces.{AllJoinAt, AreJoined, EndWith, GoesOn, HasAsMany, HasRoom, HasTimes};
+ghost use Rattle.pim_builder.specs.Pieces.{AllJoinAt, AreJoined, EndWith, GoesOn, HasAsMany, HasRoomForFact, HasTimes};
 ghost use Rattle.pim_builder.specs.Pieces.{own_steps, steps_of};
 
 use crate::builder::Now;
@@ -129,7 +129,7 @@ impl Pieces {
         ensures order { IfOk result (λ _. KeepsOrder self.old.piece.replay self.new.piece.replay) }
         ensures on { IfOk result (λ _. GoesOn now.now.time self.old self.new) }
         ensures counts { HasAsMany self.old self.new }
-        ensures room { HasRoom self.old.piece → (self.new ≡ self.old) × IsOk result }
+        ensures room { HasRoomForFact self.old.piece → (self.new ≡ self.old) × IsOk result }
     {
         if self.piece.replay.entries().len().saturating_add(ROOM) <= MAX_STEPS as usize {
             return Ok(());

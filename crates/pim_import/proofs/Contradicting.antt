@@ -22,7 +22,7 @@ use Rattle.pim_builder.specs.declared.builder.Context.{Context}
 use Rattle.pim_builder.specs.Views.{BuilderState}
 use Rattle.pim_numbers.specs.declared.fault.ImportFault.{ImportFault}
 use Rattle.pim_numbers.specs.declared.fault.ImportFault.TheVariants.{Contradiction}
-use Rattle.pim_import.specs.Contradicting.{Contradicts, ContradictsAt}
+use Rattle.pim_import.specs.Contradicting.{CannotGoOn, ContradictsAt}
 use Rattle.pim_import.specs.Following.{HasAdded, HasFollowed, IsLacking, IsOfThread, IsSpared, Knows}
 use Rattle.pim_import.specs.Following.{facts_of, stage_of}
 use Rattle.pim_import.specs.declared.critical_sections.CriticalSections.{CriticalSections}
@@ -62,7 +62,7 @@ knows-none context n k sections found builder finds owns hands orders blocking s
 abbrev pub Fails : Context → ℕ → ℕ → CriticalSections → Course → ℕ → Findings → BuilderState → Type 0
 Fails context n k sections course time found builder =
     (facts : List Moment) → Knows context n k sections facts found builder →
-    Contradicts context n k sections course time facts
+    CannotGoOn context n k sections course time facts
 
 -- the way stops at the next record
 pub contradicts-record : (bytes : List ℕ) (context : Context) (sections : CriticalSections) (n k number last time : ℕ)

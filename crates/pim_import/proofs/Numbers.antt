@@ -27,7 +27,7 @@ use Rattle.pim_requests.proofs.Having.{has-requests}
 use Rattle.pim_findings.specs.Waits.{Moment}
 use Rattle.pim_import.specs.Following.{GoesByRecord, GoesByRequest, IsWay, Stage, facts_of, moment_of, moments_of}
 use Rattle.pim_import.specs.KeptSections.{room_of}
-use Rattle.pim_import.specs.Numbers.{HasRoom, RoomLaw}
+use Rattle.pim_import.specs.Numbers.{HasNumberBelow, RoomLaw}
 use Rattle.pim_import.proofs.Going.{all-same}
 
 -- how many records were read and requests added
@@ -188,7 +188,7 @@ pub log-above : (bytes : List ℕ) → IsLog bytes → 0 < end_of (header_of byt
 log-above bytes log =
     end-above bytes (no-fault _ _ _ (second-none (form_fault_of bytes) _ log.header))
 
-all-room : (n room : ℕ) (facts : List Moment) → n < room → All (HasUpTo n) facts → All (HasRoom room) facts
+all-room : (n room : ℕ) (facts : List Moment) → n < room → All (HasUpTo n) facts → All (HasNumberBelow room) facts
 all-room n room facts lt all k d within = go (get_or facts k d).fact.section (all k d within)
   where
     go : (o : Option ℕ) → IfSome o (λ i. i ≤ n) → IfSome o (λ i. i < room)

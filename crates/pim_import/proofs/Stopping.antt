@@ -4,7 +4,7 @@ use Rattle.std.proofs.Common.{IfErr, inr, ap, sym}
 use Rattle.std.proofs.lemmas.List.{drop_more, take-append-drop}
 use Rattle.pim_numbers.specs.Faults.{IsContradiction}
 use Rattle.pim_builder.specs.Refusing.{CannotShow}
-use Rattle.pim_builder.specs.Shown.{AreShownBy, Dated, Stage}
+use Rattle.pim_builder.specs.Shown.{AreShownBy, Dated, TracePoint}
 use Rattle.pim_builder.specs.Views.{replay_now}
 use Rattle.pim_builder.specs.declared.builder.Context.{Context}
 use Rattle.pim_builder.specs.Views.{BuilderState}
@@ -21,10 +21,10 @@ use Rattle.pim_import.specs.declared.critical_sections.CriticalSections.{Critica
 use Rattle.pim_replay.specs.Replays.{IsInOrder}
 
 -- a trace that shows facts has its queues in the order in which the waits began
-shown-in-order : (context : Context) (facts : List Dated) (stage : Stage) → AreShownBy context facts stage →
-    IsInOrder stage.point.piece.replay
-shown-in-order context [] stage begin = begin.order
-shown-in-order context (latest ∷ facts) stage (before, earlier, leads, timed, shows, keeps, order, joins, given) = order
+shown-in-order : (context : Context) (facts : List Dated) (here : TracePoint) → AreShownBy context facts here →
+    IsInOrder here.point.piece.replay
+shown-in-order context [] here begin = begin.order
+shown-in-order context (latest ∷ facts) here (before, earlier, leads, timed, shows, keeps, order, joins, given) = order
 
 -- a fact that is kept, and that the trace can't show if showing it fails, can't go into the trace
 pub kept-unfit : (context : Context) (sections : CriticalSections) (course : Course) (time : ℕ) (fact : Fact)

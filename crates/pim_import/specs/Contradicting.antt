@@ -33,8 +33,8 @@ pub record StopsShowing (context : Context) (n k : ℕ) (sections : CriticalSect
   pub unfit : IsUnfit context n sections course time fact builder
 
 -- behind these facts the course contradicts what was before, or a fact that it shows doesn't fit the trace
-abbrev pub Contradicts : Context → ℕ → ℕ → CriticalSections → Course → ℕ → List Moment → Type 0
-Contradicts context n k sections course time facts =
+abbrev pub CannotGoOn : Context → ℕ → ℕ → CriticalSections → Course → ℕ → List Moment → Type 0
+CannotGoOn context n k sections course time facts =
     (course.is_contradiction ≡ true) ⊎ StopsShowing context n k sections course time facts
 
 -- A way leads through a log to the record with this number, or to a request behind it, and that contradicts what was
@@ -49,4 +49,4 @@ pub record ContradictsAt (bytes : List ℕ) (context : Context) (sections : Crit
   pub found : Findings
   pub builder : BuilderState
   pub knows : Knows context n k sections (facts_of context.sources.now before) found builder
-  pub why : Contradicts context n k sections last.course last.time (facts_of context.sources.now before)
+  pub why : CannotGoOn context n k sections last.course last.time (facts_of context.sources.now before)

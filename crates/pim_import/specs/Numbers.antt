@@ -10,8 +10,8 @@ use Rattle.pim_import.specs.Following.{AreOfLog, IsWay, Stage, facts_of}
 use Rattle.pim_import.specs.KeptSections.{room_of}
 
 -- if a fact is of a critical section, there is room for its number
-abbrev pub HasRoom : ℕ → Moment → Type 0
-HasRoom room m = IfSome m.fact.section (λ section. section < room)
+abbrev pub HasNumberBelow : ℕ → Moment → Type 0
+HasNumberBelow room m = IfSome m.fact.section (λ section. section < room)
 
 -- On each way through a log there were no more critical sections than records were read and requests added, and there is
 -- room for the number of each fact's critical section.
@@ -19,4 +19,4 @@ abbrev pub RoomLaw : Type 0
 RoomLaw = (bytes : List ℕ) (waits : List Wait) (sources : Sources) (last : Stage) (before : List Stage) → IsLog bytes →
     AreOfLog bytes waits sources → IsWay bytes sources last before → last.number ≤ end_of (header_of bytes) - 1 →
     ((sections_of last.course).count ≤ last.number + last.added)
-    × All (HasRoom (room_of bytes sources)) (facts_of sources (last ∷ before))
+    × All (HasNumberBelow (room_of bytes sources)) (facts_of sources (last ∷ before))

@@ -8,7 +8,7 @@ ghost use Rattle.pim_numbers.specs.Numbered.{HasRoomFor};
 ghost use Rattle.pim_numbers.specs.Faults.{IsContradiction, NamesOneOf, NamesOnly};
 ghost use Rattle.pim_findings.specs.Waits.{Moment};
 ghost use Rattle.pim_numbers.specs.declared.fault.ImportFault.TheVariants as import;
-ghost use Rattle.pim_import.specs.Contradicting.{Contradicts, ContradictsAt, IsUnfit};
+ghost use Rattle.pim_import.specs.Contradicting.{CannotGoOn, ContradictsAt, IsUnfit};
 ghost use Rattle.pim_import.specs.Imports.{IsOfLog, IsOfTrace, IsRefused};
 ghost use Rattle.pim_import.specs.Following.{AreAdded, AreOfLog, ArePlaced, FollowsLog, HasAdded, HasFollowed, Knows};
 ghost use Rattle.pim_import.specs.Following.{moment_of, moments_of};
@@ -293,7 +293,7 @@ fn show(
     ensures fault { IfErr result (NamesOnly now.now.number) }
     ensures stops { IfErr result (λ fault. IsContradiction fault → (n k : ℕ) (facts : List Moment) →
         Knows context.now n k sections.now facts findings.old builder.old →
-        Contradicts context.now n k sections.now walk.now.course now.now.time facts) }
+        CannotGoOn context.now n k sections.now walk.now.course now.now.time facts) }
 {
     if walk.course.is_contradiction {
         return Err(ImportFault::Contradiction(now.number));

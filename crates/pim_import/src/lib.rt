@@ -1,8 +1,8 @@
 //! From a log of pim-record to a trace, and what is found in it.
 //!
-//! [`import_log`] makes the trace of a log, in [`Piece`](pim_builder::Piece)s of at most 65,536
-//! steps, and the [`Findings`](pim_findings::Findings): the longest waits, hand-overs, ownerships,
-//! deadlocks. The [`Tally`] has each record of the log once, as used or left out.
+//! [`import_log`] makes the trace of a log, in [`Piece`](pim_builder::Piece)s, and the
+//! [`Findings`](pim_findings::Findings): the longest waits, hand-overs, ownerships, deadlocks. The
+//! [`Tally`] has each record of the log once, as used or left out.
 //!
 //! ```text
 //! let log = Log::read(alloc, &bytes)?;

@@ -9,7 +9,7 @@ use Rattle.pim_facts.specs.declared.fact.Fact.{Fact}
 use Rattle.pim_findings.specs.Waits.{Moment}
 use Rattle.pim_import.proofs.Following.{moments-more}
 use Rattle.pim_import.proofs.Stopping.{stops-at}
-use Rattle.pim_import.specs.Contradicting.{Contradicts}
+use Rattle.pim_import.specs.Contradicting.{CannotGoOn}
 use Rattle.pim_import.specs.Following.{Knows, moments_of}
 use Rattle.pim_import.proofs.importing.show.Goals as goal
 
@@ -71,7 +71,7 @@ returns-in_err-is_used-clause-stops c =
     of_fault
     (λ fault. IsContradiction fault → (n k : ℕ) (facts : List Moment) →
     Knows context n k c.args.sections.now facts c.args.findings.now c.args.builder.now →
-    Contradicts context n k c.args.sections.now course c.args.now.now.time facts)
+    CannotGoOn context n k c.args.sections.now course c.args.now.now.time facts)
     c.in_err-is_used.field-0.0 c.from_residual.result c.from_residual.ensures.1
     (λ fault n k facts knows.
     let known = c.loop-fact.invariant.finds n k facts knows in
