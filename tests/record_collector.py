@@ -38,10 +38,9 @@ class Running:
         self.child = subprocess.Popen([str(word) for word in words], **how)
 
     def helper(self, name):
-        """Returns the process of this name that pim-record has started."""
+        """Returns the process of this name that pim-record has started, and breaks off if there is none."""
         found = lambda: [it for it in children_of(self.child.pid) if proc_text(it, "comm") == f"{name}\n"]
-        until(lambda: found() or self.child.poll() is not None)
-        return found()[0]
+        return until(lambda: found() or self.child.poll() is not None)[0]
 
     def says(self, line):
         """Gives the program a line, and returns the next one that it prints."""

@@ -397,8 +397,7 @@ def others(reader, folder, tracefs):
 def guard_of(recorder):
     """Returns the process of a recording that removes the instance when the recorder is gone. It names itself."""
     found = lambda: [process for process in children_of(recorder) if proc_text(process, "comm") == "pim-guard\n"]
-    until(found)
-    guard, = found()
+    guard, = until(found)
     return guard
 
 
@@ -557,11 +556,11 @@ def lost(folder, tracefs):
     waits = f"read line; exec {PROGRAMS}/random 1 4000"
     child = started(folder, "sh", "-c", waits, options=["--buffer", "8"], stdin=subprocess.PIPE)
     name = "a recording with lost events keeps the laws"
-    if not until(lambda: program_of(child)):
+    program = until(lambda: program_of(child))
+    if not program:
         child.terminate()
         check(name, f"no program was seen, status {ended(child)}: {child.stderr.read()}")
         return
-    program = program_of(child)
     instance, = tracefs.own()
     child.send_signal(signal.SIGSTOP)
     until(lambda: stat_of(child.pid)[:1] == ["T"])

@@ -46,7 +46,11 @@ class Attached:
         self.instances = tracefs.own()
 
     def is_whole_head(self):
-        data = self.path.read_bytes() if self.path.exists() else b""
+        """Returns whether the head is there. An earlier file is removed as the recording begins."""
+        try:
+            data = self.path.read_bytes()
+        except FileNotFoundError:
+            return False
         return data != self.before and data.count(b"\n") >= len(kernel_text.HEAD)
 
     def end(self):
