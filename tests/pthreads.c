@@ -1023,6 +1023,13 @@ static int do_second(void *mutex) {
     return pthread_mutex_timedlock(mutex, &late);
 }
 
+static atomic_int has_guest_ended;
+
+static void wait_for_guest(void) {
+    at_time_out = NULL;
+    while (!atomic_load(&has_guest_ended)) pause_shortly();
+}
+
 /* The number of an owner for which others wait isn't lent again: it would own the mutex. */
 static void ended_with_waiter(void) {
     pthread_mutex_t m = made(INHERIT, NORMAL);
@@ -1030,11 +1037,13 @@ static void ended_with_waiter(void) {
     set_priorities();
     begin_player(&guest, "guest");
     IS(does(&guest, do_lock, &m), 0);
+    at_time_out = wait_for_guest;
     blocks(&low, do_second, &m);
     end_player(&guest);
     name_thread("ended", atomic_load(&guest.id));
     IS(of_thread(unlock_of_another, &m), EPERM);
     events[0] = 0;
+    atomic_store(&has_guest_ended, 1);
     IS(answer(&low), ETIMEDOUT);
     LOG(""); /* no priority of the ended thread is set */
     forget_name(atomic_load(&guest.id));
