@@ -263,9 +263,11 @@ def triggers(reader, broken, folder):
 
 
 def longest(reader, log):
-    """Returns what is wrong with a snapshot in which a thread has waited for 20 ms, or None."""
+    """Returns what is wrong with a snapshot in which a thread has waited for 20 ms, or None. The collector may have looked
+    amid the wait: then the REQUEST is the last of the thread."""
     waits = [record.value for record in log.records if record.event == reader.GRANTED]
-    return None if max(waits) >= 20_000_000 else f"{max(waits)} ns"
+    goes_on = reader.REQUEST in {record.chunk.thread: record.event for record in log.records}.values()
+    return None if goes_on or max(waits) >= 20_000_000 else f"{max(waits)} ns"
 
 
 def stuck(reader, broken, folder):
