@@ -14,6 +14,7 @@ from checks import ROOT, Faulty, check, difference, own_program, skip
 from picture_cpus import cut, plainly
 from picture_tracks import Tracks
 from record_collector import CHUNK_BYTES, number_in
+from record_contended import MOST_RECORDINGS
 from record_last import does, is_permitted, started
 from record_logs import read_text, reader
 import record_places
@@ -29,15 +30,17 @@ DURATION, MOMENT = r"\d+\.\d{3} (?:s|ms|us)", r"\d+\.\d{6} s"
 # The line of each wait of high in the program missed: high waits for low alone, and in at least one of its rounds.
 MISSED = rf"high\[\d+\], at 80, waited {DURATION} from {MOMENT} on for mutex 1 \(none\) of low\[\d+\], at 10: " \
          "not bounded: mutex 1 is a NONE one"
+# A wait for at least as long as the thread medium computes: it is longer where the machine is busy.
+TWO_SECONDS = r"(?:[2-9]|\d\d+)\.\d{3} s"
 # Of each program what its findings have: the status, lines in order (expressions over the whole line, of which further
 # ones may lie between), and lines that may not be there.
 FINDINGS = {
     "inversion none 2000": (1, [
-        rf"high\[\d+\], at 30, waited 2\.\d{{3}} s from {MOMENT} on for mutex 1 \(none\) of low\[\d+\], at 10: "
+        rf"high\[\d+\], at 30, waited {TWO_SECONDS} from {MOMENT} on for mutex 1 \(none\) of low\[\d+\], at 10: "
         r"not bounded: mutex 1 is a NONE one",
-        rf"should inherit: mutex 1 \(none\), from inversion\+0x[0-9a-f]+: 1 wait not bounded, 2\.\d{{3}} s in all",
-        rf"owned: mutex 1 \(none\), from inversion\+0x[0-9a-f]+, 2\.\d{{3}} s at most, by low\[\d+\]; "
-        r"1 wait of 2\.\d{3} s",
+        rf"should inherit: mutex 1 \(none\), from inversion\+0x[0-9a-f]+: 1 wait not bounded, {TWO_SECONDS} in all",
+        rf"owned: mutex 1 \(none\), from inversion\+0x[0-9a-f]+, {TWO_SECONDS} at most, by low\[\d+\]; "
+        rf"1 wait of {TWO_SECONDS}",
         r"trace: 2 threads and 1 mutex of 5 records make 4 steps of .*; priorities as they are, SCHED_OTHER at 1"],
         ["and ", "out of order", "deadlock"]),
     "inversion inherit 2000": (0, [
@@ -242,14 +245,24 @@ def record_own(folder, command):
     return record(folder, PROGRAMS / name, *words)
 
 
+def import_own(folder, command):
+    """Imports a recording of a program of record/programs. Returns that, and the program's status. High need not wait in
+    missed where high and low seldom run at one time: then it is recorded again."""
+    for _recording in range(MOST_RECORDINGS):
+        log, ended = record_own(folder, command)
+        found = Import(log) if ended != SKIPPED else None
+        if command != "missed" or not found or found.status != 0:
+            break
+    return found, ended
+
+
 def programs(folder):
     for command, (status, wanted, unwanted) in FINDINGS.items():
-        log, ended = record_own(folder, command)
+        found, ended = import_own(folder, command)
         name = f"the findings of {command}"
         if ended == SKIPPED:
             skip(name, "SCHED_FIFO isn't permitted")
             continue
-        found = Import(log)
         why = None if found.status == status else f"status {found.status}: {found.said}"
         check(name, why or missing(found.lines, wanted, unwanted) or found.fault())
         if command == "chain":
