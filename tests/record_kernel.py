@@ -504,7 +504,7 @@ def no_room(reader, folder):
     """A file that may not grow isn't whole: standard error says so, and the program runs on."""
     limit = lambda: resource.setrlimit(resource.RLIMIT_FSIZE, (1 << 20, 1 << 20))
     no_file = lambda: resource.setrlimit(resource.RLIMIT_FSIZE, (0, 0))
-    words = (PROGRAMS / "random", "1", "12000")  # several megabytes of events
+    words = (PROGRAMS / "random", "1", "2000")  # three megabytes of events, for which the kernel has room
     recording = Recording(reader, folder, *words, options=["--size", "1"], preexec_fn=limit)
     wanted = f"pim-record: {recording.file} isn't whole: File too large\n"
     got = (recording.status, without_imports(recording.done.stderr), len(recording.data or b""))
