@@ -54,6 +54,12 @@ class Tracefs:
         self.others |= {name for name in found if not is_descendant(processes[name]) and not is_gone(processes[name])}
         return [name for name in found if name not in self.others]
 
+    def all_but_others(self):
+        """Returns all instances but those of others' recordings, which come and go meanwhile."""
+        names = self.names()
+        self.own()
+        return [name for name in names if name not in self.others]
+
     def end(self):
         if self.folder:
             run("umount", self.folder)
@@ -378,14 +384,14 @@ def others(reader, folder, tracefs):
     kept = ["somebody", f"pim-record-{os.getpid()}-{start}", f"pim-record-{gone.pid}-1x", f"pim-record-0{gone.pid}-1",
             f"pim-recorder-{gone.pid}-1"]
     removed = [f"pim-record-{gone.pid}-1", f"pim-record-{os.getpid()}-1", f"pim-record-{ended_unseen.pid}-{its}"]
-    wanted = sorted(set(tracefs.names()) - set(tracefs.own()) | set(kept))
+    wanted = sorted(set(tracefs.all_but_others()) - set(tracefs.own()) | set(kept))
     try:
         for name in kept + removed:
             (tracefs.instances / name).mkdir()
         settings = tracefs.instances / "somebody/set_event"
         settings.write_text("sched:sched_wakeup")
         fault = Recording(reader, folder, "true").fault()
-        got = tracefs.names()
+        got = tracefs.all_but_others()
         check("the next call removes what is left, and nothing else", fault or difference((got,), (wanted,)))
         check("another's settings are kept", difference((settings.read_text(),), ("sched:sched_wakeup\n",)))
     finally:
