@@ -112,9 +112,9 @@ def as_in_full(reader, broken, folder):
 
 
 def unannounced(reader, broken, folder):
-    """A thread that finds a mutex free, and waits since another was quicker, has its wait in the log. That are more than
-    a tenth of the 200 waits of high in missed, and may be none where high and low seldom run at one time: then it is
-    recorded again."""
+    """A thread that finds a mutex free, and waits since another was quicker, has its wait in the log. More than a tenth
+    of the 200 waits of high in missed are such ones. There may be none where high and low seldom run at one time: then
+    it is recorded again."""
     path, others, lacking, fault = pathlib.Path(folder, "run"), [], 0, None
     for _recording in range(MOST_RECORDINGS):
         done = run(RECORD / "pim-record", "-o", path, "--last", "4M", CONTENDED, PROGRAMS / "missed", "200")
