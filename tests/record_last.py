@@ -263,11 +263,12 @@ def triggers(reader, broken, folder):
 
 
 def longest(reader, log):
-    """Returns what is wrong with a snapshot in which a thread has waited for 20 ms, or None. The collector may have looked
-    amid the wait: then the REQUEST is the last of the thread."""
-    waits = [record.value for record in log.records if record.event == reader.GRANTED]
-    goes_on = reader.REQUEST in {record.chunk.thread: record.event for record in log.records}.values()
-    return None if goes_on or max(waits) >= 20_000_000 else f"{max(waits)} ns"
+    """Returns what is wrong with a snapshot in which the thread that began last has waited for 20 ms, or None. The collector
+    may have looked amid the wait: then the REQUEST is its last record."""
+    own = of_thread(log, max(record.chunk.thread for record in log.records))
+    waits = [record.value for record in own if record.event == reader.GRANTED]
+    goes_on = own[-1].event == reader.REQUEST
+    return None if goes_on or max(waits, default=0) >= 20_000_000 else f"{waits} ns"
 
 
 def stuck(reader, broken, folder):
