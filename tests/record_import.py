@@ -361,6 +361,8 @@ def kernel_options(log, events):
     other = events.rename(events.with_name("events"))
     check("without LOG.kernel nothing is compared", difference([Import(log).status, " ran at " in Import(log).text], [0, False]))
     check("--kernel names another file", difference([Import(log, "--kernel", other).status], [1]))
+    said = Import(log, "--kernel", "")
+    check("--kernel without a path", difference([said.status, said.said], [2, "pim-import: : it can't be read\n"]))
     lines = other.read_text().splitlines(keepends=True)
     other.write_text("".join(lines[:40] + ["no event\n"] + lines[41:]))
     said = Import(log, "--kernel", other)

@@ -1,6 +1,6 @@
 //! The kernel's events without a log.
 
-use crate::arguments::Arguments;
+use crate::arguments::LogPaths;
 use crate::fault::Fault;
 use crate::files::{is_file, is_missing, read_file};
 use crate::kernel::{has_futexes, path_of};
@@ -10,23 +10,25 @@ use pim_labels::Alone;
 use pim_waits::Findings;
 use std::alloc::{AllocError, Global};
 
-/// Returns the path of the kernel's events if these are to be read alone: no log is named, or the one that is named isn't
-/// there, and LOG.kernel is.
+/// Returns the path of the kernel's events next to a log if these are to be read alone: they are there, and the log isn't.
 ///
 /// # Errors
 ///
 /// Returns `Memory` if out of memory.
-pub fn path_alone(
+pub fn events_alone(
     rt: &HostRuntime,
     alloc: Global,
-    arguments: &Arguments,
+    paths: &LogPaths,
 ) -> Result<Option<String>, Fault> {
-    let path = path_of(alloc, arguments)?;
-    let is_next_to_nothing = arguments.kernel.is_empty()
-        && is_missing(rt, arguments.log.as_str())
-        && is_file(rt, path.as_str());
-    let is_alone = arguments.log.is_empty() || is_next_to_nothing;
-    Ok(if is_alone { Some(path) } else { None })
+    if paths.kernel.is_some() || !is_missing(rt, paths.log) {
+        return Ok(None);
+    }
+    let path = path_of(alloc, paths)?;
+    Ok(if is_file(rt, path.as_str()) {
+        Some(path)
+    } else {
+        None
+    })
 }
 
 /// Reads the kernel's events, and finds what they say alone.

@@ -6,28 +6,42 @@ use clap::{Arg, ArgAction, ArgMatches, Command, Error};
 use std::alloc::{AllocError, Global};
 use std::io;
 
-/// What is to be imported.
-#[derive(Drop)]
-pub struct Arguments {
-    /// The path of the log. Empty: only the kernel's events are to be read.
-    pub log: String,
-    /// The path of a text of facts, which is read in place of a log, or `-`. Empty: there is none.
-    pub facts: String,
+/// What is to be imported, and how.
+#[derive(Clone, Copy)]
+pub struct Arguments<'a> {
+    pub input: Input<'a>,
     /// Whether ownerships are written for which nobody waited.
     pub is_all: bool,
     /// Whether the findings are written as JSON.
     pub is_json: bool,
-    /// The path of the kernel's events. Empty: they are next to the log, if there are any.
-    pub kernel: String,
     /// For how many nanoseconds a thread may run at another priority than POSIX gives.
     pub tolerance: u64,
 }
 
+/// What is read.
+#[derive(Clone, Copy)]
+pub enum Input<'a> {
+    /// A log, with the kernel's events.
+    Log(LogPaths<'a>),
+    /// The kernel's events at this path, without a log.
+    Kernel(&'a str),
+    /// A text of facts at this path, or of standard input if that is `-`.
+    Facts(&'a str),
+}
+
+/// Where a log is, and the kernel's events of the same recording.
+#[derive(Clone, Copy)]
+pub struct LogPaths<'a> {
+    pub log: &'a str,
+    /// `None`: the events are next to the log, if there are any.
+    pub kernel: Option<&'a str>,
+}
+
 /// What the arguments ask for.
-#[derive(Drop)]
-pub enum Asked {
-    /// To import a log.
-    Import(Arguments),
+#[derive(Clone, Copy)]
+pub enum Asked<'a> {
+    /// To import something.
+    Import(Arguments<'a>),
     /// To end with this status: a text was shown.
     Shown(u8),
 }
@@ -98,67 +112,99 @@ Exit status: 0 nothing is wrong, or there is no log; 1 a wait that is not bounde
 another priority; 2 any fault: no log, a damaged log, a log that contradicts itself (with the record), damaged events of
 the kernel or facts (with the line), a file that can't be read or written, out of memory.";
 
-/// Returns what the arguments ask for. Where they ask for a text, or are wrong, it shows that.
+/// Returns the words of the command line. The first is the program's path.
 ///
 /// # Errors
 ///
-/// Returns `Argument` if one isn't UTF-8, `Write` if a text can't be shown, and `Memory` if out of memory.
-pub fn read_arguments(rt: &HostRuntime) -> Result<Asked, Fault> {
-    let alloc = rt.alloc();
-    let arguments = match words_of(rt, alloc) {
-        Ok(arguments) => arguments,
-        Err(error) if error.kind() == io::ErrorKind::InvalidData => return Err(Fault::Argument),
-        Err(_) => return Err(Fault::Memory),
-    };
-    let mut words: Vec<&str> = Vec::with_capacity(alloc, arguments.len())?;
-    if words.push(PROGRAM).is_err() {
-        return Err(Fault::Memory);
-    }
-    for argument in arguments.iter().skip(1) {
-        if words.push(argument.as_str()).is_err() {
-            return Err(Fault::Memory);
-        }
-    }
-    match parsed(alloc, words.as_slice()) {
-        Ok(arguments) if arguments.tolerance == u64::MAX => Err(Fault::Tolerance),
-        Ok(arguments) => Ok(Asked::Import(arguments)),
-        Err(error) if error.kind() == ErrorKind::OutOfMemory => Err(Fault::Memory),
-        Err(error) => {
-            if error.print(rt).is_err() {
-                return Err(Fault::Write);
-            }
-            Ok(Asked::Shown(if error.use_stderr() { 2 } else { 0 }))
-        }
+/// Returns `Argument` if one isn't UTF-8, and `Memory` if out of memory.
+pub fn words_of(rt: &HostRuntime, alloc: Global) -> Result<Vec<String>, Fault> {
+    match collected(rt, alloc) {
+        Ok(words) => Ok(words),
+        Err(error) if error.kind() == io::ErrorKind::InvalidData => Err(Fault::Argument),
+        Err(_) => Err(Fault::Memory),
     }
 }
 
-fn words_of(rt: &HostRuntime, alloc: Global) -> io::Result<Vec<String>> {
-    let arguments: Vec<String> = std::env::args(rt)?.collect(alloc)?;
+fn collected(rt: &HostRuntime, alloc: Global) -> io::Result<Vec<String>> {
+    let words: Vec<String> = std::env::args(rt)?.collect(alloc)?;
+    Ok(words)
+}
+
+/// Returns what these arguments ask for. If that is a text, or if they are wrong, it shows that. The first of them is the
+/// program's name.
+///
+/// # Errors
+///
+/// Returns `Tolerance` if that is no duration, `Write` if a text can't be shown, and `Memory` if out of memory.
+pub fn read_arguments<'a>(
+    rt: &HostRuntime,
+    alloc: Global,
+    arguments: &'a [&'a str],
+) -> Result<Asked<'a>, Fault> {
+    match parsed(alloc, arguments) {
+        Ok(matches) => Ok(Asked::Import(arguments_of(&matches)?)),
+        Err(error) if error.kind() == ErrorKind::OutOfMemory => Err(Fault::Memory),
+        Err(error) => show(rt, &error),
+    }
+}
+
+/// Returns these words with the name by which users call the program in place of its path.
+///
+/// # Errors
+///
+/// Returns `AllocError` if out of memory.
+pub fn named<'a>(alloc: Global, words: &'a [String]) -> Result<Vec<&'a str>, AllocError> {
+    let mut arguments = vec![in alloc; PROGRAM]?;
+    for word in words.iter().skip(1) {
+        if arguments.push(word.as_str()).is_err() {
+            return Err(AllocError);
+        }
+    }
     Ok(arguments)
 }
 
-/// Returns the arguments of these words, of which the first is the program's name.
-fn parsed(alloc: Global, words: &[&str]) -> Result<Arguments, Error> {
-    let matches = command(alloc)?.try_get_matches_from(words)?;
+/// Returns what these arguments match.
+fn parsed<'a>(alloc: Global, arguments: &'a [&'a str]) -> Result<ArgMatches<'a>, Error> {
+    command(alloc)?.try_get_matches_from(arguments)
+}
+
+/// Shows a text that was asked for, or what is wrong, and returns the exit status.
+fn show<'a>(rt: &HostRuntime, error: &Error) -> Result<Asked<'a>, Fault> {
+    if error.print(rt).is_err() {
+        return Err(Fault::Write);
+    }
+    Ok(Asked::Shown(if error.use_stderr() { 2 } else { 0 }))
+}
+
+/// Returns the arguments.
+fn arguments_of<'a>(matches: &ArgMatches<'a>) -> Result<Arguments<'a>, Fault> {
+    let Some(tolerance) = tolerance_of(matches) else {
+        return Err(Fault::Tolerance);
+    };
     Ok(Arguments {
-        log: text_of(alloc, &matches, "log")?,
-        facts: text_of(alloc, &matches, "facts")?,
+        input: input_of(matches),
         is_all: matches.get_flag("all"),
         is_json: matches.get_flag("json"),
-        kernel: text_of(alloc, &matches, "kernel")?,
-        tolerance: tolerance_of(&matches),
+        tolerance,
     })
 }
 
-fn text_of(alloc: Global, matches: &ArgMatches, name: &str) -> Result<String, AllocError> {
-    String::from_str(alloc, matches.get_str(name).unwrap_or(""))
+/// Returns what is to be read. Without a log and facts there are the kernel's events.
+fn input_of<'a>(matches: &ArgMatches<'a>) -> Input<'a> {
+    let kernel = matches.get_str("kernel");
+    match (matches.get_str("log"), matches.get_str("facts")) {
+        (Some(log), _) => Input::Log(LogPaths { log, kernel }),
+        (None, Some(facts)) => Input::Facts(facts),
+        // Without both, clap requires --kernel.
+        (None, None) => Input::Kernel(kernel.unwrap_or_default()),
+    }
 }
 
-/// Returns the tolerance in nanoseconds: 50 us where none is given, `u64::MAX` where it is no duration.
-fn tolerance_of(matches: &ArgMatches) -> u64 {
+/// Returns the tolerance in nanoseconds: 50 us where none is given, `None` where it is no duration.
+fn tolerance_of(matches: &ArgMatches) -> Option<u64> {
     match matches.get_str("tolerance") {
-        Some(text) => duration_of(text.as_bytes()).unwrap_or(u64::MAX),
-        None => 50_000,
+        Some(text) => duration_of(text.as_bytes()),
+        None => Some(50_000),
     }
 }
 

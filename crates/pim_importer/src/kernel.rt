@@ -1,6 +1,6 @@
 //! The kernel's events next to a log.
 
-use crate::arguments::Arguments;
+use crate::arguments::LogPaths;
 use crate::fault::Fault;
 use crate::files::{is_file, read_file};
 use pim_comparison::{compare, waits_of};
@@ -42,11 +42,11 @@ impl Events {
     fn compared(
         self,
         alloc: Global,
-        arguments: &Arguments,
+        tolerance: u64,
         log: &Log,
         imported: &Imported,
     ) -> Result<Kernel, AllocError> {
-        let compared = compare(alloc, log, imported, &self.tracks, arguments.tolerance)?;
+        let compared = compare(alloc, log, imported, &self.tracks, tolerance)?;
         let waits = awaited_in(alloc, imported)?;
         let meanwhile = ran_meanwhile(alloc, &self.recording, &self.tracks, &waits)?;
         let futexes = futexes_in(alloc, log, imported, &self.recording)?;
@@ -81,10 +81,10 @@ impl Events {
 pub fn events_of(
     rt: &HostRuntime,
     alloc: Global,
-    arguments: &Arguments,
+    paths: &LogPaths,
 ) -> Result<Option<Events>, Fault> {
-    let path = path_of(alloc, arguments)?;
-    if arguments.kernel.is_empty() && !is_file(rt, path.as_str()) {
+    let path = path_of(alloc, paths)?;
+    if paths.kernel.is_none() && !is_file(rt, path.as_str()) {
         return Ok(None);
     }
     let bytes = read_file(rt, alloc, path.as_str())?;
@@ -113,20 +113,20 @@ pub fn waits_in(alloc: Global, events: Option<&Events>) -> Result<Vec<Wait>, All
     }
 }
 
-/// Compares the kernel's events, if there are any, with the trace.
+/// Compares the kernel's events, if there are any, with the trace. The tolerance is in nanoseconds.
 ///
 /// # Errors
 ///
 /// Returns `AllocError` if out of memory.
 pub fn kernel_of(
     alloc: Global,
-    arguments: &Arguments,
+    tolerance: u64,
     log: &Log,
     imported: &Imported,
     events: Option<Events>,
 ) -> Result<Option<Kernel>, AllocError> {
     match events {
-        Some(events) => Ok(Some(events.compared(alloc, arguments, log, imported)?)),
+        Some(events) => Ok(Some(events.compared(alloc, tolerance, log, imported)?)),
         None => Ok(None),
     }
 }
@@ -185,11 +185,12 @@ fn awaited_in(alloc: Global, imported: &Imported) -> Result<Vec<Awaited>, AllocE
 }
 
 /// Returns the path of the kernel's events: the one that is named, or LOG.kernel.
-pub fn path_of(alloc: Global, arguments: &Arguments) -> Result<String, AllocError> {
-    if arguments.kernel.is_empty() {
-        let log = arguments.log.as_str();
-        format!(in alloc; "{log}.kernel")
-    } else {
-        String::from_str(alloc, arguments.kernel.as_str())
+pub fn path_of(alloc: Global, paths: &LogPaths) -> Result<String, AllocError> {
+    match paths.kernel {
+        Some(path) => String::from_str(alloc, path),
+        None => {
+            let log = paths.log;
+            format!(in alloc; "{log}.kernel")
+        }
     }
 }

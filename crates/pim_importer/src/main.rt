@@ -17,8 +17,8 @@ mod names;
 mod places;
 mod results;
 
-use crate::alone::{alone_of, path_alone};
-use crate::arguments::{Arguments, Asked, read_arguments};
+use crate::alone::{alone_of, events_alone};
+use crate::arguments::{Arguments, Asked, Input, LogPaths, named, read_arguments, words_of};
 use crate::facts::{Facts, read_facts};
 use crate::fault::Fault;
 use crate::files::{read_log, write_names, write_traces};
@@ -55,33 +55,42 @@ fn main(rt: HostRuntime) -> ExitCode {
 
 /// Does what the arguments ask for, and returns the exit status.
 fn work(rt: &HostRuntime) -> Result<u8, Fault> {
-    match read_arguments(rt)? {
-        Asked::Import(arguments) => import_any(rt, rt.alloc(), &arguments),
+    let alloc = rt.alloc();
+    let words = words_of(rt, alloc)?;
+    let arguments = named(alloc, &words)?;
+    match read_arguments(rt, alloc, &arguments)? {
+        Asked::Import(arguments) => import_any(rt, alloc, &arguments),
         Asked::Shown(status) => Ok(status),
     }
 }
 
 /// Imports what the arguments name, and returns the exit status.
 fn import_any(rt: &HostRuntime, alloc: Global, arguments: &Arguments) -> Result<u8, Fault> {
-    if !arguments.facts.is_empty() {
-        return import_facts(rt, alloc, arguments);
-    }
-    match path_alone(rt, alloc, arguments)? {
-        Some(path) => tell_alone(rt, alloc, path.as_str(), arguments.is_json),
-        None => import(rt, alloc, arguments),
+    match arguments.input {
+        Input::Facts(path) => import_facts(rt, alloc, path, arguments),
+        Input::Kernel(path) => tell_alone(rt, alloc, path, arguments.is_json),
+        Input::Log(paths) => match events_alone(rt, alloc, &paths)? {
+            Some(path) => tell_alone(rt, alloc, path.as_str(), arguments.is_json),
+            None => import(rt, alloc, &paths, arguments),
+        },
     }
 }
 
 /// Imports a log, and returns the exit status.
-fn import(rt: &HostRuntime, alloc: Global, arguments: &Arguments) -> Result<u8, Fault> {
-    let bytes = read_log(rt, alloc, arguments.log.as_str())?;
+fn import(
+    rt: &HostRuntime,
+    alloc: Global,
+    paths: &LogPaths,
+    arguments: &Arguments,
+) -> Result<u8, Fault> {
+    let path = paths.log;
+    let bytes = read_log(rt, alloc, path)?;
     let log = Log::read(alloc, &bytes)?;
-    let events = events_of(rt, alloc, arguments)?;
+    let events = events_of(rt, alloc, paths)?;
     let waits = waits_in(alloc, events.as_ref())?;
     let options = options_of(arguments, have_futexes(events.as_ref()));
     let imported = import_log(alloc, &log, options, &waits)?;
-    let kernel = kernel_of(alloc, arguments, &log, &imported, events)?;
-    let path = arguments.log.as_str();
+    let kernel = kernel_of(alloc, arguments.tolerance, &log, &imported, events)?;
     let mut labels = Labels::of(alloc, &log, &imported.sources.ids)?;
     labels.name_places(place_texts(rt, alloc, path, &log)?);
     tell(
@@ -97,8 +106,13 @@ fn import(rt: &HostRuntime, alloc: Global, arguments: &Arguments) -> Result<u8, 
 }
 
 /// Imports a text of facts, and returns the exit status. Record n of its log is line n of the text.
-fn import_facts(rt: &HostRuntime, alloc: Global, arguments: &Arguments) -> Result<u8, Fault> {
-    let Facts { path, log, names } = read_facts(rt, alloc, arguments.facts.as_str())?;
+fn import_facts(
+    rt: &HostRuntime,
+    alloc: Global,
+    path: &str,
+    arguments: &Arguments,
+) -> Result<u8, Fault> {
+    let Facts { path, log, names } = read_facts(rt, alloc, path)?;
     let log = Log::read(alloc, &log)?;
     let imported = match import_log(alloc, &log, options_of(arguments, false), &[]) {
         Ok(imported) => imported,
