@@ -1,7 +1,7 @@
 -- Which bounds are listed, and in which order.
 use Rattle.std.specs.Prelude.{◌≡◌, IsTrue, ℕ, suc, nat_lt, Bool, false, List, [], ◌∷◌, ◌++◌, length, filter, take, min}
 use Rattle.pim_facts.specs.declared.ids.Ids.{Ids}
-use Rattle.pim_orders.specs.declared.nesting.Order.{Order}
+use Rattle.pim_deadlocks.specs.declared.nesting.Order.{Order}
 use Rattle.pim_blocking.specs.Blocked.{KnowsThreads, highest_level, is_real_time, longest_wait}
 use Rattle.pim_blocking.specs.Bounds.{IsBound}
 use Rattle.pim_blocking.specs.Observed.{AreLongest, KnowsSections, Moment, all_sections}

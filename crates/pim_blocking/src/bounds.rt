@@ -15,8 +15,8 @@ use crate::nested::Nested;
 use crate::section::Section;
 use crate::sections::Sections;
 use pim_course::{Course, Sources};
+use pim_deadlocks::Order;
 use pim_facts::Fact;
-use pim_orders::Order;
 use std::alloc::{AllocError, Global};
 use std::cmp::Ordering;
 

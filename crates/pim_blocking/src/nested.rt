@@ -3,7 +3,7 @@ ghost use Rattle.std.specs.Prelude.{◌≡◌, ℕ, ◌==◌, ◌++◌, ◌∷�
 ghost use Rattle.pim_blocking.specs.Reached.{AreReached, inner_in, inner_of};
 
 use crate::search::Search;
-use pim_orders::Order;
+use pim_deadlocks::Order;
 use std::alloc::{AllocError, Global};
 
 /// The mutexes that threads asked for while they owned another.

@@ -4,9 +4,6 @@ pub mod Ordering
 pub mod Counting
 pub mod Owners
 pub mod Lasting
-pub mod Walking
-pub mod Cycling
-pub mod Blockers
 pub mod Owning
 pub mod Granting
 pub mod Queueing

@@ -1,8 +1,8 @@
 -- What is known of the orders of mutexes, and of critical sections, after one more fact.
 use Rattle.std.proofs.Common.{◌≡◌, ℕ, ◌<◌, cond, List, ◌∷◌, sym, subst}
 use Rattle.std.proofs.lemmas.Bool.{lt-ltb}
-use Rattle.pim_orders.specs.Nestings as nesting
-use Rattle.pim_orders.specs.Seen as nested
+use Rattle.pim_deadlocks.specs.Nestings as nesting
+use Rattle.pim_deadlocks.specs.Seen as nested
 use Rattle.pim_facts.specs.declared.ids.Ids.{Ids}
 use Rattle.pim_blocking.specs.Listed as blocking
 use Rattle.pim_findings.specs.Bounds.{KnowsBlocking, observed_of}

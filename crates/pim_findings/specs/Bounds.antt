@@ -1,9 +1,9 @@
 -- What threads can be blocked for.
 use Rattle.std.specs.Prelude.{ℕ, List, map}
 use Rattle.pim_facts.specs.declared.ids.Ids.{Ids}
-use Rattle.pim_orders.specs.Nestings.{nestings}
-use Rattle.pim_orders.specs.Seen.{AreOrders}
-use Rattle.pim_orders.specs.declared.nesting.Order.{Order}
+use Rattle.pim_deadlocks.specs.Nestings.{nestings}
+use Rattle.pim_deadlocks.specs.Seen.{AreOrders}
+use Rattle.pim_deadlocks.specs.declared.nesting.Order.{Order}
 use Rattle.pim_blocking.specs.Listed as blocking
 use Rattle.pim_blocking.specs.Observed as observed
 use Rattle.pim_findings.specs.Orders.{nested_of}

@@ -7,8 +7,5 @@ pub mod Levels
 pub mod Queue
 pub mod HandOvers
 pub mod Laws
-pub mod Cycles
-pub mod Walks
-pub mod Deadlocks
 pub mod Orders
 pub mod Bounds

@@ -1,9 +1,9 @@
 -- In which orders threads take mutexes.
 use Rattle.std.specs.Prelude.{ℕ, List, map}
-use Rattle.pim_orders.specs.Nestings as nesting
-use Rattle.pim_orders.specs.Nestings.{nestings}
-use Rattle.pim_orders.specs.Opposites.{AreOpposites}
-use Rattle.pim_orders.specs.Seen as nested
+use Rattle.pim_deadlocks.specs.Nestings as nesting
+use Rattle.pim_deadlocks.specs.Nestings.{nestings}
+use Rattle.pim_deadlocks.specs.Opposites.{AreOpposites}
+use Rattle.pim_deadlocks.specs.Seen as nested
 use Rattle.pim_findings.specs.Waits.{Moment}
 use Rattle.pim_findings.specs.declared.findings.Findings.{Findings}
 

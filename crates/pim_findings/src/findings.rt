@@ -1,7 +1,7 @@
 //! What is found in a recording.
 ghost use Rattle.std.specs.Prelude.{◌≡◌, ◌≢◌, ℕ, ◌<◌, ◌==◌, ◌&&◌, ◌||◌, not, ◌↔◌, ◌⊎◌, Some, None, List, [], ◌∷◌, length, is_some, Any, IfOk, IsTrue, if◌then◌else◌, vec_len};
-ghost use Rattle.pim_findings.specs.Cycles.{AreCycles};
-ghost use Rattle.pim_findings.specs.Deadlocks.{blocker_of, threads_of};
+ghost use Rattle.pim_deadlocks.specs.Cycles.{AreCycles};
+ghost use Rattle.pim_deadlocks.specs.Deadlocks.{blocker_of, threads_of};
 ghost use Rattle.pim_findings.specs.Waits.{Moment, all_waits, and_fact, and_until};
 ghost use Rattle.pim_findings.specs.Longest.{AreReported};
 ghost use Rattle.pim_findings.specs.Found.{Finds, KeepsWaits, wait_at};
@@ -15,20 +15,18 @@ ghost use Rattle.pim_findings.specs.Orders.{KnowsOrders};
 ghost use Rattle.pim_blocking.specs.Listed as blocking;
 ghost use Rattle.pim_facts.specs.declared.ids.Ids.{Ids};
 ghost use Rattle.pim_blocking.specs.Observed as observed;
-ghost use Rattle.pim_orders.specs.Nestings as nesting;
-ghost use Rattle.pim_orders.specs.Opposites.{AreOpposites};
-ghost use Rattle.pim_orders.specs.Seen as nested;
+ghost use Rattle.pim_deadlocks.specs.Nestings as nesting;
+ghost use Rattle.pim_deadlocks.specs.Opposites.{AreOpposites};
+ghost use Rattle.pim_deadlocks.specs.Seen as nested;
 
-use crate::deadlock::Deadlock;
-use crate::deadlocks::deadlocks_of;
 use crate::found_mutex::{FoundMutex, FoundOwnership, Left};
 use crate::found_wait::FoundWait;
 use crate::found_waits::FoundWaits;
 use crate::waiting::{Release, Waiting};
 use pim_blocking::{Blocking, Bound};
 use pim_course::{Course, Sources, family_of};
+use pim_deadlocks::{Deadlock, Opposite, Orders, deadlocks_of};
 use pim_facts::{Fact, Family, What};
-use pim_orders::{Opposite, Orders};
 use std::alloc::{AllocError, Global};
 
 /// What is found in a recording.

@@ -1,5 +1,5 @@
-//! What is found in a recorded program: waits, hand-overs, ownerships and deadlocks; and by pim_orders
-//! and pim_blocking opposite orders, and what threads can be blocked for.
+//! What is found in a recorded program: waits, hand-overs and ownerships; and by pim_deadlocks and
+//! pim_blocking deadlocks, opposite orders, and what threads can be blocked for.
 //!
 //! [`Findings`] learns from each [`Fact`](pim_facts::Fact) of a log, in order, beside the
 //! [`Course`](pim_course::Course) of the program. It is proved that the waits it reports are those
@@ -16,9 +16,6 @@
 //! ```
 #![tactic(auto)]
 
-mod cycles;
-mod deadlock;
-mod deadlocks;
 mod findings;
 mod found_mutex;
 mod found_wait;
@@ -27,7 +24,6 @@ mod laws;
 mod queues;
 mod waiting;
 
-pub use deadlock::Deadlock;
 pub use findings::Findings;
 pub use found_mutex::{FoundMutex, FoundOwnership, HandOvers};
 pub use found_wait::{FoundOwner, FoundWait};

@@ -21,8 +21,8 @@ use Rattle.pim_findings.proofs.Following.{finds-kept}
 use Rattle.pim_findings.proofs.Handing.{handed-kept}
 use Rattle.pim_findings.proofs.Nested.{orders-kept, sections-kept}
 use Rattle.pim_findings.specs.Bounds.{FindsBounds, KnowsBlocking}
-use Rattle.pim_findings.specs.Cycles.{AreCycles}
-use Rattle.pim_findings.specs.Deadlocks.{blocker_of, threads_of}
+use Rattle.pim_deadlocks.specs.Cycles.{AreCycles}
+use Rattle.pim_deadlocks.specs.Deadlocks.{blocker_of, threads_of}
 use Rattle.pim_findings.specs.Found.{Finds, KeepsWaits}
 use Rattle.pim_findings.specs.HandOvers.{AreHandOvers, HandsOver}
 use Rattle.pim_findings.specs.Orders.{FindsOpposites, KnowsOrders}

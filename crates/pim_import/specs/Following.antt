@@ -32,8 +32,8 @@ use Rattle.pim_requests.specs.Complete.{HasThoseOfCalls}
 use Rattle.pim_requests.specs.Laws.{HasBoth}
 use Rattle.pim_requests.specs.declared.waits.Wait.{Wait}
 use Rattle.pim_findings.specs.Bounds.{FindsBounds, KnowsBlocking}
-use Rattle.pim_findings.specs.Cycles.{AreCycles}
-use Rattle.pim_findings.specs.Deadlocks.{blocker_of, threads_of}
+use Rattle.pim_deadlocks.specs.Cycles.{AreCycles}
+use Rattle.pim_deadlocks.specs.Deadlocks.{blocker_of, threads_of}
 use Rattle.pim_findings.specs.Found.{Finds}
 use Rattle.pim_findings.specs.HandOvers.{AreHandOvers, HandsOver}
 use Rattle.pim_findings.specs.Longest.{AreReported}

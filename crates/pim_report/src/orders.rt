@@ -1,7 +1,7 @@
 //! Mutexes that were taken in opposite orders, as lines of text.
 
+use pim_deadlocks::{Nesting, Opposite};
 use pim_labels::{Told, number_of, put_code, put_count, put_mutex, put_thread};
-use pim_orders::{Nesting, Opposite};
 use pim_out::Out;
 
 /// What stands before the opposite orders.

@@ -1,8 +1,8 @@
 //! Mutexes that were taken in opposite orders, as JSON.
 
 use crate::report::{put_at, put_number, put_thread};
+use pim_deadlocks::Nesting;
 use pim_labels::{Told, family_of, put_place};
-use pim_orders::Nesting;
 use pim_out::{JsonOut, Out};
 use std::alloc::Global;
 

@@ -2,7 +2,7 @@ use Rattle.std.proofs.Common.{◌≡◌, ◌∙◌, ℕ, ◌+◌, ◌<◌, ◌==
 use Rattle.std.specs.List.{filter}
 use Rattle.std.proofs.lemmas.List.{append-nil, map-append}
 use Rattle.std.proofs.lemmas.List.Elements.{filter_more}
-use Rattle.pim_orders.specs.declared.nesting.Order.{Order}
+use Rattle.pim_deadlocks.specs.declared.nesting.Order.{Order}
 use Rattle.pim_blocking.specs.Reached.{inner_of}
 use Rattle.pim_blocking.proofs.nested.Nested.of.Goals as goal
 

@@ -1,5 +1,5 @@
 use Rattle.std.proofs.Common.{◌≡◌, ◌<◌, ◌∙◌, refl, sym, subst, arith}
-use Rattle.pim_orders.specs.Seen.{Knows}
+use Rattle.pim_deadlocks.specs.Seen.{Knows}
 use Rattle.pim_blocking.specs.Listed as blocking
 use Rattle.pim_findings.specs.Bounds.{observed_of}
 use Rattle.pim_findings.specs.Orders.{nested_of}

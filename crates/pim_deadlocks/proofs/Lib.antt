@@ -1,0 +1,6 @@
+mod Seeing
+mod Opposing
+mod Asking
+mod Walking
+mod Cycling
+mod Blockers

@@ -1,3 +1,0 @@
-mod Seeing
-mod Opposing
-mod Asking

@@ -1,4 +1,0 @@
-pub mod Nestings
-pub mod Seen
-pub mod Opposites
-pub mod Laws
