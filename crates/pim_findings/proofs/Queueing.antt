@@ -6,6 +6,7 @@ use Rattle.std.specs.Global.{Global}
 use Rattle.std.specs.List.{filter, list_any}
 use Rattle.std.specs.Option.{option_map_or}
 use Rattle.std.proofs.lemmas.Bool.{false≢true, true≢false, ne_eqb, cases_eq, cases_lt}
+use Rattle.std.proofs.lemmas.List.{length-append}
 use Rattle.std.proofs.lemmas.Option.{none-some, same_Some, slice_get_within}
 use Rattle.std.proofs.lemmas.List.Elements.{Contains-append_left, Contains-append_right, Contains-push, Contains-push_cases}
 use Rattle.pim_findings.specs.declared.waiting.Open.{Open}
@@ -130,27 +131,55 @@ queue-changed old new m before after by got is does one = elim (cases_eq one m) 
 pub listed-joined : (old new : Queues) (wait : Queued) →
     ((m : ℕ) → queue_of new m ≡ cond (m == wait.mutex) (queue_of old m ++ wait ∷ []) (queue_of old m)) →
     ((m : ℕ) → Contains old.awaited.items m → Contains new.awaited.items m) →
-    (length (queue_of old wait.mutex) ≡ 0 → Contains new.awaited.items wait.mutex) → ListsAwaited old → ListsAwaited new
-listed-joined old new wait queues kept first lists m some = elim (cases_eq m wait.mutex) [
-  | inl same ↦ subst (Contains new.awaited.items) (sym same) (elim (cases_lt 0 (length (queue_of old wait.mutex))) [
-    | inl others ↦ kept wait.mutex (lists wait.mutex others)
-    | inr none ↦ first (omega (arith, none))
-  ])
-  | inr ne ↦
-      let list : queue_of new m ≡ queue_of old m =
-      queues m ∙ ap (λ b. cond b (queue_of old m ++ wait ∷ []) (queue_of old m)) (ne_eqb m wait.mutex ne) in
-      kept m (lists m (subst (λ l. 0 < length l) list some))
-]
+    (length (queue_of old wait.mutex) ≡ 0 → Contains new.awaited.items wait.mutex) →
+    ((m : ℕ) → Contains new.awaited.items m → Contains old.awaited.items m ⊎ (m ≡ wait.mutex)) →
+    ListsAwaited old → ListsAwaited new
+listed-joined old new wait queues kept first only lists m = (waits, listed)
+  where
+    own : m ≡ wait.mutex → queue_of new m ≡ queue_of old m ++ wait ∷ []
+    own same = queues m ∙ ap (λ b. cond b (queue_of old m ++ wait ∷ []) (queue_of old m)) (eq-eqb m wait.mutex same)
+
+    other : m ≢ wait.mutex → queue_of new m ≡ queue_of old m
+    other ne = queues m ∙ ap (λ b. cond b (queue_of old m ++ wait ∷ []) (queue_of old m)) (ne_eqb m wait.mutex ne)
+
+    waits : Contains new.awaited.items m → 0 < length (queue_of new m)
+    waits h = elim (cases_eq m wait.mutex) [
+      | inl same ↦
+          subst (λ l. 0 < length l) (sym (own same)) (omega (arith, length-append (queue_of old m) (wait ∷ [])))
+      | inr ne ↦ subst (λ l. 0 < length l) (sym (other ne)) ((lists m).0 (elim (only m h) [
+        | inl before ↦ before
+        | inr same ↦ absurd (ne same)
+      ]))
+    ]
+
+    listed : 0 < length (queue_of new m) → Contains new.awaited.items m
+    listed some = elim (cases_eq m wait.mutex) [
+      | inl same ↦ subst (Contains new.awaited.items) (sym same) (elim (cases_lt 0 (length (queue_of old wait.mutex))) [
+        | inl others ↦ kept wait.mutex ((lists wait.mutex).1 others)
+        | inr none ↦ first (omega (arith, none))
+      ])
+      | inr ne ↦ kept m ((lists m).1 (subst (λ l. 0 < length l) (other ne) some))
+    ]
 
 -- a wait less; a mutex is listed no more for which there is none left
 pub listed-left : (old new : Queues) (mutex thread : ℕ) →
     ((m : ℕ) → queue_of new m ≡
     cond (m == mutex) (filter (λ wait. not (wait.thread == thread)) (queue_of old m)) (queue_of old m)) →
     ((m : ℕ) → 0 < length (queue_of new m) → Contains old.awaited.items m → Contains new.awaited.items m) →
-    ListsAwaited old → ListsAwaited new
-listed-left old new mutex thread queues kept lists m some =
-    kept m some (lists m (fewer (m == mutex) (subst (λ l. 0 < length l) (queues m) some)))
+    ((m : ℕ) → Contains new.awaited.items m → Contains old.awaited.items m) →
+    (Contains new.awaited.items mutex → 0 < length (queue_of new mutex)) → ListsAwaited old → ListsAwaited new
+listed-left old new mutex thread queues kept only last lists m = (waits, listed)
   where
+    waits : Contains new.awaited.items m → 0 < length (queue_of new m)
+    waits h = elim (cases_eq m mutex) [
+      | inl same ↦ subst (λ one. 0 < length (queue_of new one)) (sym same) (last (subst (Contains new.awaited.items) same h))
+      | inr ne ↦
+          let list : queue_of new m ≡ queue_of old m =
+          queues m ∙ ap (λ b. cond b (filter (λ wait. not (wait.thread == thread)) (queue_of old m)) (queue_of old m))
+          (ne_eqb m mutex ne) in
+          subst (λ l. 0 < length l) (sym list) ((lists m).0 (only m h))
+    ]
+
     no-more : (xs : List Queued) → length (filter (λ (wait : Queued). not (wait.thread == thread)) xs) ≤ length xs
     no-more [] = omega arith
     no-more (x ∷ xs) = go (not (x.thread == thread)) (no-more xs)
@@ -166,6 +195,9 @@ listed-left old new mutex thread queues kept lists m some =
         0 < length (queue_of old m)
     fewer true h = let le = no-more (queue_of old m) in omega (arith, h, le)
     fewer false h = h
+
+    listed : 0 < length (queue_of new m) → Contains new.awaited.items m
+    listed some = kept m some ((lists m).1 (fewer (m == mutex) (subst (λ l. 0 < length l) (queues m) some)))
 
 -- another one stays listed
 pub listed-other : (awaited : List ℕ) (mutex m : ℕ) → m ≢ mutex → Contains awaited m →

@@ -29,12 +29,12 @@ queue_in lists mutex = option_map_or (λ (list : Vec Queued Global). list.items)
 abbrev pub queue_of : Queues → ℕ → List Queued
 queue_of queues mutex = queue_in queues.lists.items mutex
 
--- each mutex is listed for which a thread waits
+-- a mutex is listed exactly if a thread waits for it
 abbrev pub ListsAwaited : Queues → Type 0
-ListsAwaited queues = (mutex : ℕ) → 0 < length (queue_of queues mutex) → Contains queues.awaited.items mutex
+ListsAwaited queues = (mutex : ℕ) → Contains queues.awaited.items mutex ↔ (0 < length (queue_of queues mutex))
 
 -- The waits that last are in the queues of their mutexes, and no others are in any. The mutexes are listed for which threads
--- wait, and there is a place for the level of each thread.
+-- wait, and no others, and there is a place for the level of each thread.
 pub record KeepsQueue (waiting : Waiting) : Type 0 where
   pub exactly : (mutex : ℕ) (wait : Queued) → Contains (queue_of waiting.queues mutex) wait ↔
       ((wait.mutex ≡ mutex) × (queued_at waiting wait.thread ≡ Some wait))

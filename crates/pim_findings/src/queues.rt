@@ -20,7 +20,7 @@ pub(crate) struct Queued {
 pub(crate) struct Queues {
     /// Those for each mutex, up to the last one for which a thread waited, in the order in which they began.
     lists: Vec<Vec<Queued>>,
-    /// The mutexes for which threads wait. That there are no others isn't proved: these would cost time alone.
+    /// The mutexes for which threads wait.
     pub awaited: Vec<u32>,
 }
 
@@ -28,6 +28,7 @@ impl Queues {
     /// Returns that no thread waits.
     pub fn new(alloc: Global) -> Queues
         ensures none { (mutex : ℕ) → queue_of result mutex ≡ [] }
+        ensures awaited { ListsAwaited result }
     {
         Queues {
             lists: Vec::new(alloc),

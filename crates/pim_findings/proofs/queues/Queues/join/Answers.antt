@@ -1,6 +1,6 @@
-use Rattle.std.proofs.Common.{◌≡◌, ◌<◌, ◌==◌, ◌∙◌, ℕ, cond, [], ◌∷◌, ◌++◌, length, Contains, sym, ap, subst, eq-eqb}
+use Rattle.std.proofs.Common.{◌≡◌, ◌⊎◌, ◌<◌, ◌==◌, ◌∙◌, ℕ, cond, [], ◌∷◌, ◌++◌, length, Contains, inl, inr, sym, ap, subst, eq-eqb}
 use Rattle.std.proofs.lemmas.Bool.{both_ways}
-use Rattle.std.proofs.lemmas.List.Elements.{Contains-append_left, Contains-push}
+use Rattle.std.proofs.lemmas.List.Elements.{Contains-append_left, Contains-push, Contains-push_cases}
 use Rattle.pim_findings.specs.declared.queues.Queues.{Queues}
 use Rattle.pim_findings.specs.Queue.{queue_in, queue_of}
 use Rattle.pim_findings.proofs.Counting.{ok-then}
@@ -37,9 +37,19 @@ returns-clause-awaited c =
           ap length (c.of.ensures ∙ c.in_ok-make_room.ensures.same mutex) ∙ none in
           absurd (both_ways c.is_empty.result w.if-is_empty.false (c.is_empty.ensures ∙ eq-eqb _ _ zero))
     ] in
+    let only : (m : ℕ) → Contains c.if-is_empty.self.awaited.items m → Contains old.awaited.items m ⊎ (m ≡ mutex) =
+    elim c.if-is_empty.branch [
+      | then-is_empty+in_ok-push w ↦ λ m h.
+          elim (Contains-push_cases old.awaited.items mutex m
+          (subst (λ l. Contains l m) w.in_ok-push.ensures (subst (λ (q : Queues). Contains q.awaited.items m) w.self-is h))) [
+            | inl before ↦ inl before
+            | inr same ↦ inr (sym same)
+          ]
+      | else-is_empty w ↦ λ m h. inl (subst (λ (q : Queues). Contains q.awaited.items m) w.self-is h)
+    ] in
     ok-then c.add.result
     (λ added lists. listed-joined old
     (record { lists = c.add.new.lists; awaited = c.if-is_empty.self.awaited }) c.args.wait
     (λ m. added m ∙ ap (λ l. cond (m == mutex) (l ++ c.args.wait ∷ []) l) (same m))
-    kept first lists)
+    kept first only lists)
     (c.add.ensures (subst (λ l. mutex < length l) (sym lists_are) c.in_ok-make_room.ensures.room))
