@@ -1,5 +1,7 @@
 -- What is reported with one wait more.
-use Rattle.std.proofs.Common.{◌≡◌, ◌≢◌, ℕ, ◌+◌, ◌<◌, ◌==◌, Bool, true, false, cond, ◌&&◌, List, [], ◌∷◌, ◌++◌, length, insert, take, reverse, max, count_by, sum_by, suc, Option, Some, None, option_map, IfSome, Result, Ok, Err, inl, inr, refl, sym, ap, subst, ◌∙◌, arith, eq-eqb}
+use Rattle.std.proofs.Common.{◌≡◌, ◌≢◌, ℕ, ◌+◌, ◌<◌, ◌==◌, Bool, true, false, cond, ◌&&◌, List, [], ◌∷◌, ◌++◌, length}
+use Rattle.std.proofs.Common.{insert, take, reverse, max, count_by, sum_by, suc, Option, Some, None, option_map, IfSome}
+use Rattle.std.proofs.Common.{Result, Ok, Err, inl, inr, refl, sym, ap, subst, ◌∙◌, arith, eq-eqb}
 use Rattle.std.specs.Result.{IfOk}
 use Rattle.std.specs.List.{position_or_len}
 use Rattle.std.proofs.lemmas.Bool.{ne_eqb, cases_eq}
@@ -9,7 +11,8 @@ use Rattle.pim_findings.specs.declared.found_wait.FoundWait.{FoundWait}
 use Rattle.pim_findings.specs.declared.found_waits.FoundWaits.{FoundWaits}
 use Rattle.pim_findings.specs.declared.found_waits.MutexWaits.{MutexWaits}
 use Rattle.pim_findings.specs.declared.found_waits.TheConstants.{LONGEST}
-use Rattle.pim_findings.specs.Longest.{AreReported, ListsLongest, capped, counts_of, is_longer, is_unbounded_for, listed, longest_for, waits_at}
+use Rattle.pim_findings.specs.Longest.{AreReported, ListsLongest, capped, counts_of, is_longer, is_unbounded_for, listed}
+use Rattle.pim_findings.specs.Longest.{longest_for, waits_at}
 use Rattle.pim_findings.specs.Counted.{counted_with}
 use Rattle.pim_blocking.proofs.Placing.{first-placed, placed}
 use Rattle.pim_findings.proofs.Ordering.{longest-none, longest-placed}

@@ -1,5 +1,6 @@
 -- The first wait for a mutex is that of the first thread that waits for it.
-use Rattle.std.proofs.Common.{◌≡◌, ◌⊎◌, ℕ, ◌<◌, ◌≤◌, ◌==◌, Bool, true, false, ◌||◌, List, length, get_or, Some, None, IsTrue, MatchOption, Contains, refl, sym, ap, ◌∙◌, subst, inl, inr, arith, eq-eqb}
+use Rattle.std.proofs.Common.{◌≡◌, ◌⊎◌, ℕ, ◌<◌, ◌≤◌, ◌==◌, Bool, true, false, ◌||◌, length, get_or, Some, None, IsTrue}
+use Rattle.std.proofs.Common.{MatchOption, Contains, refl, sym, ap, ◌∙◌, subst, inl, inr, arith, eq-eqb}
 use Rattle.std.specs.Prelude.{slice_get}
 use Rattle.std.proofs.lemmas.Bool.{eqb-true, cases_lt}
 use Rattle.std.proofs.lemmas.List.{get_or_default}
@@ -10,8 +11,9 @@ use Rattle.pim_course.specs.declared.course.Sources.{Sources}
 use Rattle.pim_findings.specs.declared.queues.Queued.{Queued}
 use Rattle.pim_findings.specs.declared.waiting.Release.{Release}
 use Rattle.pim_findings.specs.declared.waiting.Waiting.{Waiting}
-use Rattle.pim_findings.specs.Levels.{Before, Gets, HasFirst, awaits_by, is_inherit, number_by}
-use Rattle.pim_findings.specs.Queue.{AreEffective, AreSound, HasHighest, HaveOwn, IsBehind, IsRaised, KeepsQueue, before_at, counts_at, level_at, protects_at, queue_of, queued_at}
+use Rattle.pim_findings.specs.Levels.{Gets, HasFirst, awaits_by, is_inherit, number_by}
+use Rattle.pim_findings.specs.Queue.{AreEffective, AreSound, HasHighest, HaveOwn, IsBehind, IsRaised, KeepsQueue, before_at}
+use Rattle.pim_findings.specs.Queue.{counts_at, level_at, protects_at, queue_of, queued_at}
 use Rattle.pim_findings.proofs.Queueing.{queue-kept}
 use Rattle.pim_findings.proofs.Highest.{queue-number, queue-waits, waits-queued}
 use Rattle.pim_findings.proofs.Raising.{all-ceilings, all-effective, heir-waits, owner-raised, sound-none, waits-inside}

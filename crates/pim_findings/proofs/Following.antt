@@ -1,5 +1,7 @@
 -- What is known of waits after one more fact.
-use Rattle.std.proofs.Common.{◌≡◌, ◌≢◌, ℕ, suc, ◌+◌, ◌<◌, ◌≤◌, ◌==◌, Bool, true, false, cond, List, ◌∷◌, length, get_or, Option, Some, None, Result, Ok, Err, ◌&&◌, nat_lt, sym, ap, ◌∙◌, subst, inl, inr, arith, eq-eqb}
+use Rattle.std.proofs.Common.{◌≡◌, ◌≢◌, ℕ, suc, ◌+◌, ◌<◌, ◌≤◌, ◌==◌, Bool, true, false, cond, List, ◌∷◌, length, get_or}
+use Rattle.std.proofs.Common.{Option, Some, None, Result, Ok, Err, ◌&&◌, nat_lt, sym, ap, ◌∙◌, subst, inl, inr, arith}
+use Rattle.std.proofs.Common.{eq-eqb}
 use Rattle.std.specs.Option.{option_map}
 use Rattle.std.specs.Result.{IfOk}
 use Rattle.std.proofs.lemmas.Bool.{ne_eqb, lt-ltb, le-ltb, cases_lt, cases_eq, and_from, and_left}
@@ -9,7 +11,8 @@ use Rattle.pim_findings.specs.declared.found_wait.FoundWait.{FoundWait}
 use Rattle.pim_findings.specs.declared.found_waits.FoundWaits.{FoundWaits}
 use Rattle.pim_findings.specs.declared.findings.Findings.{Findings}
 use Rattle.pim_findings.specs.declared.waiting.Waiting.{Waiting}
-use Rattle.pim_findings.specs.Waits.{Moment, after_own, all_waits, and_fact, and_until, begun_wait, ended_waits, ends_wait, lasting_until, wait_of}
+use Rattle.pim_findings.specs.Waits.{Moment, after_own, all_waits, and_fact, and_until, begun_wait, ended_waits, ends_wait}
+use Rattle.pim_findings.specs.Waits.{lasting_until, wait_of}
 use Rattle.pim_findings.specs.Longest.{AreReported}
 use Rattle.pim_findings.specs.Found.{Finds, KeepsWaits, wait_at}
 use Rattle.pim_findings.proofs.Steps.{ended_waits-one, wait_of-other, wait_of-own}

@@ -1,5 +1,7 @@
 -- What is known of hand-overs after one more fact.
-use Rattle.std.proofs.Common.{◌≡◌, ◌≢◌, ℕ, ◌+◌, ◌<◌, ◌==◌, Bool, true, false, cond, not, nat_le, nat_lt, ◌&&◌, ◌||◌, List, ◌∷◌, length, Option, Some, None, option_map, Result, Ok, Err, refl, sym, ap, ◌∙◌, subst, inl, inr, arith, eq-eqb}
+use Rattle.std.proofs.Common.{◌≡◌, ◌≢◌, ℕ, ◌+◌, ◌<◌, ◌==◌, Bool, true, false, cond, not, nat_le, nat_lt, ◌&&◌, ◌||◌, List}
+use Rattle.std.proofs.Common.{◌∷◌, length, Option, Some, None, option_map, Result, Ok, Err, refl, sym, ap, ◌∙◌, subst, inl}
+use Rattle.std.proofs.Common.{inr, arith, eq-eqb}
 use Rattle.std.specs.List.{count_by, list_any}
 use Rattle.std.specs.Result.{IfOk}
 use Rattle.std.proofs.lemmas.Bool.{ne_eqb, lt-ltb, le-leb, leb-true, cases_eq, and_left, and_right, and_from, both_ways}
@@ -19,7 +21,8 @@ use Rattle.pim_findings.specs.Levels as levels
 use Rattle.pim_findings.specs.Levels.{before_release, is_protect}
 use Rattle.pim_findings.specs.Queue.{KeepsQueue, protects_at, queue_of, queued_at}
 use Rattle.pim_findings.specs.Ownerships.{grants, is_grant, is_release, mutex_at, releases}
-use Rattle.pim_findings.specs.HandOvers.{AreHandOvers, HandsOn, HandsOver, IsEarly, IsLeft, Leaves, begins_wait, begun_by, by_grant, by_other, left_by, number_of, protects_by, queued_by, still_left, taken}
+use Rattle.pim_findings.specs.HandOvers.{AreHandOvers, HandsOn, HandsOver, IsEarly, IsLeft, Leaves, begins_wait, begun_by}
+use Rattle.pim_findings.specs.HandOvers.{by_grant, by_other, left_by, number_of, protects_by, queued_by, still_left, taken}
 use Rattle.pim_findings.proofs.Steps.{wait_of-other, wait_of-own}
 use Rattle.pim_findings.proofs.Queueing.{queue-kept}
 

@@ -1,5 +1,6 @@
 -- The waits, the longest first: there is just one such order.
-use Rattle.std.proofs.Common.{◌≡◌, ◌∙◌, ◌≤◌, ℕ, suc, nat_lt, Bool, true, false, not, ◌&&◌, cond, List, [], ◌∷◌, length, get_or, reverse, refl, sym, ap, subst, arith, AllPairs}
+use Rattle.std.proofs.Common.{◌≡◌, ◌∙◌, ◌≤◌, ℕ, suc, nat_lt, Bool, true, false, not, ◌&&◌, cond, List, [], ◌∷◌, length}
+use Rattle.std.proofs.Common.{get_or, reverse, refl, sym, ap, subst, arith, AllPairs}
 use Rattle.std.specs.List.{filter}
 use Rattle.std.specs.List.Sorted.{ties}
 use Rattle.std.proofs.lemmas.Bool.{le-ltb, ltb-false, ltb-true}
@@ -7,7 +8,8 @@ use Rattle.std.proofs.lemmas.List.{reverse-append, reverse-reverse}
 use Rattle.std.proofs.lemmas.List.Sorted.{IsPermutation-refl}
 use Rattle.pim_blocking.specs.Ordered.{IsOrderedBy}
 use Rattle.pim_blocking.proofs.Placing.{exceeds, placed}
-use Rattle.pim_blocking.proofs.Ranking.{AllUpTo, Descends, descends-sorted, none-ties, placed-permutes, placed-sorted, placed-stable, sorted-pairs}
+use Rattle.pim_blocking.proofs.Ranking.{AllUpTo, Descends, descends-sorted, none-ties, placed-permutes, placed-sorted}
+use Rattle.pim_blocking.proofs.Ranking.{placed-stable, sorted-pairs}
 use Rattle.pim_findings.specs.declared.found_wait.FoundWait.{FoundWait}
 use Rattle.pim_findings.specs.Longest.{is_longer}
 use Rattle.pim_findings.specs.Laws.{IsNoShorter}

@@ -8,7 +8,8 @@ use Rattle.pim_facts.specs.declared.fact.What.{What}
 use Rattle.pim_facts.specs.declared.fact.What.TheVariants.{Granted, Waits, GaveUp, Released, Level, Ceiling}
 use Rattle.pim_findings.specs.declared.found_wait.FoundOwner.{FoundOwner}
 use Rattle.pim_findings.specs.declared.found_wait.FoundWait.{FoundWait}
-use Rattle.pim_findings.specs.Waits.{Moment, after_own, all_waits, and_until, awaited_by, ended_waits, ends_wait, level_in, owner_for, place_of_owner, wait_of}
+use Rattle.pim_findings.specs.Waits.{Moment, after_own, all_waits, and_until, awaited_by, ended_waits, ends_wait, level_in}
+use Rattle.pim_findings.specs.Waits.{owner_for, place_of_owner, wait_of}
 use Rattle.pim_findings.specs.Laws.{HasOther}
 
 owner_for-other : (course : Course) (t : ℕ) → IfSome (owner_for course t) (λ owner. owner.thread ≢ t)

@@ -1,5 +1,6 @@
 -- What is reported of waits: how many, and the longest.
-use Rattle.std.specs.Prelude.{◌≡◌, ℕ, ◌<◌, ◌==◌, nat_lt, ◌&&◌, Bool, List, [], ◌∷◌, length, take, reverse, min, max, count_by, sum_by, slice_index_or, if◌then◌else◌, Option, IfSome, Vec}
+use Rattle.std.specs.Prelude.{◌≡◌, ℕ, ◌<◌, ◌==◌, nat_lt, ◌&&◌, Bool, List, [], ◌∷◌, length, take, reverse, min, max}
+use Rattle.std.specs.Prelude.{count_by, sum_by, slice_index_or, if◌then◌else◌, Option, IfSome, Vec}
 use Rattle.std.specs.Global.{Global}
 use Rattle.std.specs.Option.{option_map}
 use Rattle.pim_blocking.specs.Ordered.{IsOrderedBy}

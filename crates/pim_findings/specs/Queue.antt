@@ -1,5 +1,6 @@
 -- How the waits that last are kept.
-use Rattle.std.specs.Prelude.{◌≡◌, ◌⊎◌, ℕ, ◌<◌, ◌≤◌, ◌==◌, ◌&&◌, ◌||◌, nat_lt, Bool, List, [], length, slice_get, slice_index_or, Option, Some, None, Contains, ◌↔◌, IsTrue, Vec}
+use Rattle.std.specs.Prelude.{◌≡◌, ◌⊎◌, ℕ, ◌<◌, ◌≤◌, ◌==◌, ◌&&◌, ◌||◌, nat_lt, Bool, List, [], length, slice_get}
+use Rattle.std.specs.Prelude.{slice_index_or, Option, Some, None, Contains, ◌↔◌, IsTrue, Vec}
 use Rattle.std.specs.Global.{Global}
 use Rattle.std.specs.List.{list_any}
 use Rattle.std.specs.Option.{option_map, option_map_or}

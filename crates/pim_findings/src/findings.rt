@@ -1,5 +1,6 @@
 //! What is found in a recording.
-ghost use Rattle.std.specs.Prelude.{◌≡◌, ◌≢◌, ℕ, ◌<◌, ◌==◌, ◌&&◌, ◌||◌, not, ◌↔◌, ◌⊎◌, Some, None, List, [], ◌∷◌, length, is_some, Any, IfOk, IsTrue, if◌then◌else◌, vec_len};
+ghost use Rattle.std.specs.Prelude.{◌≡◌, ◌≢◌, ℕ, ◌<◌, ◌==◌, ◌&&◌, ◌||◌, not, ◌↔◌, ◌⊎◌, Some, None, List, [], ◌∷◌, length};
+ghost use Rattle.std.specs.Prelude.{is_some, Any, IfOk, IsTrue, if◌then◌else◌, vec_len};
 ghost use Rattle.pim_deadlocks.specs.Cycles.{AreCycles};
 ghost use Rattle.pim_deadlocks.specs.Deadlocks.{blocker_of, threads_of};
 ghost use Rattle.pim_findings.specs.Waits.{Moment, all_waits, and_fact, and_until};
@@ -70,7 +71,8 @@ impl Findings {
     /// Returns `AllocError` if out of memory.
     pub fn new(alloc: Global, sources: &Sources, lists_waits: bool) -> Result<Findings, AllocError>
         ensures lists { IfOk result (λ found. is_some found.waits.all ≡ lists_waits) }
-        ensures waits { IfOk result (λ found. Finds (length sources.now.ids.threads.items) (length sources.now.ids.mutexes.items) [] found) }
+        ensures waits { IfOk result (λ found.
+            Finds (length sources.now.ids.threads.items) (length sources.now.ids.mutexes.items) [] found) }
         ensures orders { IfOk result (λ found. nested.Knows (length sources.now.ids.threads.items) [] found.orders) }
         ensures sections { IfOk result (KnowsBlocking sources.now.ids []) }
         ensures owns { IfOk result (λ found. Owns (length sources.now.ids.mutexes.items) [] found) }

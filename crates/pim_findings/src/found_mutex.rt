@@ -1,5 +1,5 @@
 //! Who owned a mutex, and to whom it went.
-ghost use Rattle.std.specs.Prelude.{◌≡◌, ℕ, List, is_some};
+ghost use Rattle.std.specs.Prelude.{◌≡◌, List, is_some};
 ghost use Rattle.pim_findings.specs.HandOvers.{and_to, handed_to};
 ghost use Rattle.pim_findings.specs.Ownerships.{IsLongest, and_since};
 

@@ -1,5 +1,7 @@
 //! Who waits for which mutex, and who is the first waiter.
-ghost use Rattle.std.specs.Prelude.{◌≡◌, ◌↔◌, ℕ, ◌+◌, ◌<◌, ◌≤◌, ◌==◌, ◌&&◌, ◌||◌, false, nat_le, nat_lt, not, length, slice_get, slice_set, Contains, Option, Some, None, IfOk, IsTrue, MatchOption, if◌then◌else◌, slice_index_or};
+ghost use Rattle.std.specs.Prelude.{◌≡◌, ◌↔◌, ℕ, ◌+◌, ◌<◌, ◌≤◌, ◌==◌, ◌&&◌, ◌||◌, false, nat_le, nat_lt, not, length};
+ghost use Rattle.std.specs.Prelude.{slice_get, slice_set, Contains, Option, Some, None, IfOk, IsTrue, MatchOption};
+ghost use Rattle.std.specs.Prelude.{if◌then◌else◌, slice_index_or};
 ghost use Rattle.std.specs.List.{list_any};
 ghost use Rattle.pim_findings.specs.Found.{wait_at};
 ghost use Rattle.pim_findings.specs.HandOvers.{number_for};
@@ -7,7 +9,8 @@ ghost use Rattle.pim_course.specs.World.{but_for, world_of};
 ghost use Rattle.pim_findings.specs.declared.queues.Queued as queues;
 ghost use Rattle.pim_findings.specs.Levels.{Gets, IsFirstNumber, heir_by};
 ghost use Rattle.pim_findings.specs.Longest.{capped};
-ghost use Rattle.pim_findings.specs.Queue.{AreEffective, AreSound, HasHighest, HaveOwn, IsRaised, KeepsQueue, before_at, counts_at, is_before_at, level_at, protects_at, queue_of, queued_at};
+ghost use Rattle.pim_findings.specs.Queue.{AreEffective, AreSound, HasHighest, HaveOwn, IsRaised, KeepsQueue, before_at};
+ghost use Rattle.pim_findings.specs.Queue.{counts_at, is_before_at, level_at, protects_at, queue_of, queued_at};
 
 use crate::found_wait::FoundWait;
 use crate::queues::{Queued, Queues, remove};
