@@ -1,5 +1,6 @@
 -- Who blocks a thread that there isn't.
-use Rattle.std.proofs.Common.{◌≡◌, ℕ, ◌≤◌, ◌==◌, ◌||◌, Bool, true, false, cond, length, min, nat_le, slice_get, Option, None, refl, ap, arith, leb-false}
+use Rattle.std.proofs.Common.{◌≡◌, ℕ, ◌≤◌, ◌==◌, ◌||◌, Bool, true, false, cond, length, min, nat_le, slice_get, Option, None}
+use Rattle.std.proofs.Common.{refl, ap, arith, leb-false}
 use Rattle.std.specs.Option.{option_map_or}
 use Rattle.std.proofs.lemmas.Option.{slice_get_past}
 use Rattle.pim_course.specs.declared.course.Course.{Course}

@@ -1,18 +1,21 @@
 -- The opposite orders that are found are those of the nestings.
-use Rattle.std.proofs.Common.{◌≡◌, ◌≢◌, ◌⊎◌, ◌<◌, ◌==◌, nat_lt, Bool, true, false, cond, not, List, [], ◌∷◌, Option, Some, None, Contains, refl, sym, ap, ◌∙◌, subst, inl, inr, is_eq, arith, eq-eqb, true≢false}
+use Rattle.std.proofs.Common.{◌≡◌, ◌≢◌, ◌⊎◌, ◌<◌, ◌==◌, nat_lt, Bool, true, false, cond, not, List, [], ◌∷◌, Option, Some}
+use Rattle.std.proofs.Common.{None, Contains, refl, sym, ap, ◌∙◌, subst, inl, inr, is_eq, arith, eq-eqb, true≢false}
 use Rattle.std.specs.List.{cons_option, filter_map}
 use Rattle.std.specs.Map.{keys_of, lookup}
 use Rattle.std.specs.Option.{option_map}
 use Rattle.std.specs.BTreeMap as tree
 use Rattle.std.specs.BTreeMap.{BTreeMap}
-use Rattle.std.proofs.lemmas.Bool.{and_parts, and_from, cases_eq, cases_order, eqb-false, eqb-true, ltb-true, lt-ltb, ne_eqb, not-true, not_from_false}
+use Rattle.std.proofs.lemmas.Bool.{and_parts, and_from, cases_eq, cases_order, eqb-false, eqb-true, ltb-true, lt-ltb, ne_eqb}
+use Rattle.std.proofs.lemmas.Bool.{not-true, not_from_false}
 use Rattle.std.proofs.lemmas.List.Elements.{Contains-append_cases, Contains-append_right, Contains-push_cases}
 use Rattle.std.proofs.lemmas.Option.{none-some, same_Some}
 use Rattle.pim_deadlocks.specs.declared.nesting.Nesting.{Nesting}
 use Rattle.pim_deadlocks.specs.declared.nesting.Order.{Order}
 use Rattle.pim_deadlocks.specs.declared.opposite.Opposite.{Opposite}
 use Rattle.pim_deadlocks.specs.declared.orders.Seen.{Seen}
-use Rattle.pim_deadlocks.specs.Opposites.{AreOpposites, IsOfMutexes, IsOpposite, IsReal, back, opposite_at, opposite_of, opposite_with, other_of}
+use Rattle.pim_deadlocks.specs.Opposites.{AreOpposites, IsOfMutexes, IsOpposite, IsReal, back, opposite_at, opposite_of}
+use Rattle.pim_deadlocks.specs.Opposites.{opposite_with, other_of}
 use Rattle.pim_deadlocks.specs.Seen.{AreOrders, AreSeen, by_mutexes, earliest, is_of, is_of_other, seen_in}
 use Rattle.pim_deadlocks.proofs.Seeing.{earliest-on, key-same, same-order}
 

@@ -1,5 +1,6 @@
 -- What is known of cycles on the way through all numbers.
-use Rattle.std.specs.Prelude.{◌≡◌, ◌≢◌, ℕ, ◌+◌, ◌<◌, ◌⊎◌, Bool, true, false, List, length, slice_index, slice_index_or, Option, None, Some, All, AllPairs, Any, Contains}
+use Rattle.std.specs.Prelude.{◌≡◌, ◌≢◌, ℕ, ◌+◌, ◌<◌, ◌⊎◌, Bool, true, false, List, length, slice_index, slice_index_or}
+use Rattle.std.specs.Prelude.{Option, None, Some, All, AllPairs, Any, Contains}
 use Rattle.pim_deadlocks.specs.Cycles.{AreApart, IsCycle, IsListedBefore, IsLowest}
 
 -- whom a number leads to, by a list
