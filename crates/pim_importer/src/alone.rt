@@ -4,10 +4,9 @@ use crate::arguments::LogPaths;
 use crate::fault::Fault;
 use crate::files::{is_file, is_missing, read_file};
 use crate::kernel::{has_futexes, path_of};
-use pim_futex_waits::{FutexWaits, futex_waits_of, longest_first};
 use pim_kernel_events::{Recording, TextFault, Tracks};
+use pim_kernel_waits::{Findings, FutexWaits, futex_waits_of, longest_first};
 use pim_labels::Alone;
-use pim_waits::Findings;
 use std::alloc::{AllocError, Global};
 
 /// Returns the path of the kernel's events next to a log if these are to be read alone: they are there, and the log isn't.

@@ -3,7 +3,7 @@
 //! It reads the log, passes it to `pim_import::import_log`, and writes the trace, the names and the
 //! findings. The decisions about the log are in `pim_course` and `pim_import`; docs/RECORDING.md says
 //! what is proved of them, and the rest is tested. Of the kernel's events without a log it writes what
-//! `pim_waits` finds. `pim_report` and `pim_report_json` write the findings. This crate has what no
+//! `pim_kernel_waits` finds. `pim_report` and `pim_report_json` write the findings. This crate has what no
 //! contract can say: the files and the process.
 #![tactic(auto)]
 

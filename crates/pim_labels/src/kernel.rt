@@ -2,10 +2,9 @@
 
 use pim_base::Reason;
 use pim_comparison::Compared;
-use pim_futex_waits::{FutexWait, FutexWaits};
 use pim_kernel_events::{Recording, Tasks};
+use pim_kernel_waits::{Findings, FutexWait, FutexWaits, RanMeanwhile};
 use pim_out::Out;
-use pim_waits::{Findings, RanMeanwhile};
 
 /// What the kernel's events show.
 pub struct Kernel {

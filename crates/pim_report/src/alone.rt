@@ -3,11 +3,11 @@
 use crate::futex_waits::{put_futex_waits, put_left_out};
 use crate::kernel::put_lost;
 use pim_kernel_events::Boost;
+use pim_kernel_waits::{Boosted, Wait, boosts_by};
 use pim_labels::{
     Alone, LISTED_WAITS, TaskNames, put_count, put_duration, put_level, put_since, put_task,
 };
 use pim_out::Out;
-use pim_waits::{Boosted, Wait, boosts_by};
 use std::alloc::{AllocError, Global};
 
 /// What the kernel's events alone can't know.

@@ -1,6 +1,6 @@
 //! The waits of real-time threads for futexes, as lines of text.
 
-use pim_futex_waits::{End, FutexWait, Waker};
+use pim_kernel_waits::{End, FutexWait, Waker};
 use pim_labels::{
     LISTED_WAITS, TaskNames, put_count, put_duration, put_level, put_since, put_task,
 };

@@ -3,9 +3,9 @@
 use crate::futex_waits::put_futex_waits;
 use crate::tasks::put_task;
 use pim_kernel_events::Boost;
+use pim_kernel_waits::{Boosted, Wait, boosts_by};
 use pim_labels::{Alone, LISTED_WAITS, TaskNames};
 use pim_out::{JsonOut, Out};
-use pim_waits::{Boosted, Wait, boosts_by};
 use std::alloc::{AllocError, Global};
 
 /// Returns the findings as one JSON object, and a line feed. Times are nanoseconds, of CLOCK_MONOTONIC where they say

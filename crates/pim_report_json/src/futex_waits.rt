@@ -1,7 +1,7 @@
 //! The waits of real-time threads for futexes, as JSON.
 
 use crate::tasks::put_task;
-use pim_futex_waits::{End, FutexWait, Waker};
+use pim_kernel_waits::{End, FutexWait, Waker};
 use pim_labels::{LISTED_WAITS, TaskNames};
 use pim_out::{JsonOut, Out};
 use std::alloc::Global;

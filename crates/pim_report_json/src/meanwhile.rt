@@ -1,8 +1,8 @@
 //! Who ran in the place of an owner while another thread waited, as JSON.
 
+use pim_kernel_waits::RanMeanwhile;
 use pim_labels::Kernel;
 use pim_out::JsonOut;
-use pim_waits::RanMeanwhile;
 
 /// Writes who ran in the place of the owner during one of the longest waits to an array, the one that ran longest first.
 pub fn put_meanwhile(out: &mut JsonOut, kernel: &Kernel, wait: usize) {

@@ -6,9 +6,9 @@ use Rattle.pim_findings.specs.declared.found_wait.FoundWait.{FoundWait}
 use Rattle.pim_findings.specs.declared.found_waits.FoundWaits.{FoundWaits}
 use Rattle.pim_other_waits.specs.declared.wait.OtherWait.{OtherWait}
 use Rattle.pim_other_waits.specs.Records.{AreOtherWaits}
-use Rattle.pim_futex_waits.specs.declared.spans.Span.{Span}
-use Rattle.pim_futex_waits.specs.declared.wait.FutexWait.{FutexWait}
-use Rattle.pim_futex_waits.specs.Outside.{outside}
+use Rattle.pim_kernel_waits.specs.declared.spans.Span.{Span}
+use Rattle.pim_kernel_waits.specs.declared.futex_wait.FutexWait.{FutexWait}
+use Rattle.pim_kernel_waits.specs.Outside.{outside}
 
 -- the waits for mutexes that are listed: all, if that was asked for
 abbrev pub listed : FoundWaits → List FoundWait

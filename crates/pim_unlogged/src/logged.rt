@@ -5,7 +5,7 @@ ghost use Rattle.pim_unlogged.specs.Logged.{AreUnlogged, listed, logged_spans, s
 
 use pim_facts::Ids;
 use pim_findings::{FoundWait, FoundWaits};
-use pim_futex_waits::{FutexWait, Span, outside};
+use pim_kernel_waits::{FutexWait, Span, outside};
 use pim_log::Log;
 use pim_other_waits::{OtherWait, other_waits_of};
 use std::alloc::{AllocError, Global};
