@@ -3,14 +3,13 @@
 use crate::arguments::LogPaths;
 use crate::fault::Fault;
 use crate::files::{is_file, read_file};
-use pim_comparison::{compare, waits_of};
+use pim_comparison::{compare, unlogged, waits_of};
 use pim_import::Imported;
 use pim_kernel_events::{Recording, TextFault, Tracks};
 use pim_kernel_waits::{Awaited, FutexWait, futex_waits_of, longest_first, ran_meanwhile};
 use pim_labels::Kernel;
 use pim_log::Log;
 use pim_requests::Wait;
-use pim_unlogged::unlogged;
 use std::alloc::{AllocError, Global};
 
 /// The first version of the events that has waits for futexes.

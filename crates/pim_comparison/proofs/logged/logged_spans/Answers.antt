@@ -1,9 +1,9 @@
 use Rattle.std.proofs.Common.{[], ◌++◌, take, ap, ◌∙◌, arith}
 use Rattle.std.specs.Prelude.{filter_map}
 use Rattle.std.specs.Option.{option_to_list}
-use Rattle.pim_unlogged.specs.Logged.{span_of_found, span_of_other}
-use Rattle.pim_unlogged.proofs.Following.{filter_map_more}
-use Rattle.pim_unlogged.proofs.logged.logged_spans.Goals as goal
+use Rattle.pim_comparison.specs.Logged.{span_of_found, span_of_other}
+use Rattle.pim_comparison.proofs.Following.{filter_map_more}
+use Rattle.pim_comparison.proofs.logged.logged_spans.Goals as goal
 
 pub loop-place-preserved : goal.loop-place-preserved
 loop-place-preserved c =

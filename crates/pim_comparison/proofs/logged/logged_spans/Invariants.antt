@@ -1,7 +1,7 @@
 use Rattle.std.proofs.Common.{◌≡◌, ◌++◌, take}
 use Rattle.std.specs.Prelude.{filter_map}
-use Rattle.pim_unlogged.specs.Logged.{span_of_found, span_of_other}
-use Rattle.pim_unlogged.proofs.logged.logged_spans.Given as goal
+use Rattle.pim_comparison.specs.Logged.{span_of_found, span_of_other}
+use Rattle.pim_comparison.proofs.logged.logged_spans.Given as goal
 
 -- the spans of the waits for mutexes so far
 abbrev pub invariant-loop-place : goal.invariant-loop-place

@@ -1,7 +1,7 @@
 //! When threads waited, by a log.
 ghost use Rattle.std.specs.Prelude.{◌≡◌, ◌++◌, IfOk};
 ghost use Rattle.std.specs.Option.{option_to_list};
-ghost use Rattle.pim_unlogged.specs.Logged.{AreUnlogged, listed, logged_spans, span_of, span_of_found, span_of_other};
+ghost use Rattle.pim_comparison.specs.Logged.{AreUnlogged, listed, logged_spans, span_of, span_of_found, span_of_other};
 
 use pim_facts::Ids;
 use pim_findings::{FoundWait, FoundWaits};
