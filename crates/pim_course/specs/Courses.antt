@@ -38,11 +38,12 @@ idle =
       level = 0;
     }
 
--- a mutex as a log begins: free, with the ceiling of the log
+-- a mutex as a log begins: free, with the ceiling of the first record that says what it is: Knowing.antt of pim_facts
 abbrev pub mutex_at_begin : LoggedMutex → CourseMutex
 mutex_at_begin is = record free { ceiling = is.ceiling }
 
--- a thread as a log begins: it does nothing, and has the level of its first record
+-- a thread as a log begins: it does nothing, and has the level of its last THREAD, 0 if there is none: `thread_of` of
+-- Logged.antt of pim_facts
 abbrev pub thread_at_begin : LoggedThread → CourseThread
 thread_at_begin is = record idle { level = is.level }
 

@@ -20,11 +20,12 @@ use Rattle.pim_course.specs.declared.course.Course.{Course}
 use Rattle.pim_course.specs.declared.course.Sources.{Sources}
 use Rattle.pim_course.specs.declared.requests.Request.{Request}
 
--- the ceiling that the first record of a mutex says; 0 of a mutex that there isn't
+-- the ceiling of a mutex by the first record that says what it is; 0 of a mutex that there isn't
 abbrev pub first_ceiling : Ids → ℕ → ℕ
 first_ceiling ids m = option_map_or (λ mutex. mutex.ceiling) (slice_get ids.mutexes.items m) 0
 
--- the world as a log begins: nobody owns or awaits anything, and levels and ceilings are those of the first records
+-- the world as a log begins: nobody owns or awaits anything, a thread has the level of its last THREAD, and a mutex the
+-- ceiling of the first record that says what it is
 abbrev pub world_before : Ids → World
 world_before ids = record { owner = λ m. None; awaits = λ t. None; level = first_level ids; ceiling = first_ceiling ids }
 
@@ -39,7 +40,7 @@ pub record Begins (ids : Ids) (course : Course) : Type 0 where
   pub details : details_of course ≡ no_details
   pub shown : shown_in course.shown ≡ []
 
--- the world in which an event of a thread happens: the thread's first record tells the level that it has, which is no fact
+-- the world in which an event of a thread happens: a THREAD says the level with which its thread begins, which is no fact
 abbrev pub as_told : World → ℕ → Event → World
 as_told world t (event.Thread _ priority) = record world { level = but_for t (level_by priority 0) world.level }
 as_told world _ _ = world

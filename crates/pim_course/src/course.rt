@@ -104,7 +104,7 @@ pub struct Course {
 }
 
 impl Course {
-    /// Returns the course of a log at its begin: all mutexes are free, and each thread has the level of its first record.
+    /// Returns the course of a log at its begin: all mutexes are free, and each thread has the level of its last THREAD.
     ///
     /// # Errors
     ///
@@ -243,7 +243,7 @@ impl Course {
         }
     }
 
-    /// A thread has its first record, which tells its level.
+    /// A THREAD says with which level its thread begins.
     fn begin(&mut self, thread: u32, priority: Priority) -> LeftOut
         ensures size { HasSameSize self.old self.new }
         ensures depths { KeepsDepths self.old self.new }
