@@ -5,6 +5,7 @@ pub mod Covered
 pub mod Telling
 pub mod Numbering
 pub mod Detailing
+pub mod Unchanging
 pub mod Finding
 pub mod Together
 pub mod Counting

@@ -6,6 +6,7 @@ pub mod Going
 pub mod Kept
 pub mod NextOwners
 pub mod Reading
+pub mod Reasons
 pub mod Requests
 pub mod Sections
 pub mod Told

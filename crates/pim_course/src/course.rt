@@ -4,12 +4,13 @@ ghost use Rattle.std.specs.Option.{unwrap_or};
 ghost use Rattle.pim_facts.specs.Levels.{id_of, level_by};
 ghost use Rattle.pim_facts.specs.Shown.{shown_in};
 ghost use Rattle.pim_course.specs.Courses.{family_in, mutex_at_begin, mutex_in, thread_at_begin, thread_in};
-ghost use Rattle.pim_course.specs.Depths.{depth_after, depths_after, is_recursive_in};
-ghost use Rattle.pim_course.specs.Details.{added_details, details_after, details_by, details_of};
+ghost use Rattle.pim_course.specs.Depths.{depths_after, is_recursive_in};
+ghost use Rattle.pim_course.specs.Details.{added_details, details_after, details_of};
 ghost use Rattle.pim_course.specs.Going.{GoesOn, HasSameSize, KeepsDepths, KeepsDetails, KeepsSections, Numbers, Tells};
 ghost use Rattle.pim_course.specs.Reading.{Begins, HasRequest, HasThoseOf, world_at};
+ghost use Rattle.pim_course.specs.Reasons.{reason_of};
 ghost use Rattle.pim_course.specs.Sections.{AreNumbered, sections_of};
-ghost use Rattle.pim_course.specs.Told.{added_told, ceiling_by_log, ceiling_told, depths_of, event_told, happened_in, level_told, told_by};
+ghost use Rattle.pim_course.specs.Told.{added_told, ceiling_by_log, ceiling_told, depths_of, happened_in, level_told, told_by};
 ghost use Rattle.pim_course.specs.World.{Lead, but_for, world_of};
 
 use crate::next_owners::NextOwners;
@@ -156,6 +157,7 @@ impl Course {
     /// Goes on by a record. Adds what it shows to `shown`, notes whether it is a contradiction, and returns why the record
     /// is left out if none of what it shows is in the trace.
     pub fn advance(&mut self, sources: &Sources, record: &Record) -> LeftOut
+        ensures otherwise { result ≡ reason_of sources.now self.old «record».now }
         ensures size { HasSameSize self.old self.new }
         ensures depths { HasThoseOf self.old «record».now (id_of sources.now.ids «record».now.number) →
             (m : ℕ) → depths_of self.new m ≡ depths_after sources.now self.old «record».now m }
@@ -170,28 +172,17 @@ impl Course {
             details_of self.new ≡ details_after sources.now self.old «record».now }
     {
         self.is_contradiction = false;
-        match sources.ids.of_record(record.number) {
-            Some(id) => self.go_on(sources, record, id),
-            None => self.stay(record),
-        }
-    }
-
-    /// Goes on by a record that is about a thread or a mutex, which has this number.
-    fn go_on(&mut self, sources: &Sources, record: &Record, id: u32) -> LeftOut
-        ensures size { HasSameSize self.old self.new }
-        ensures depths { HasThoseOf self.old «record».now (Some id) → (m : ℕ) → depths_of self.new m ≡
-            depth_after sources.now (world_of self.old) (depths_of self.old) «record».now.number «record».now.thread id
-            «record».now.event m }
-        ensures shown { HasThoseOf self.old «record».now (Some id) → shown_in self.old.shown ≡ [] →
-            Lead (shown_in self.new.shown) (world_at self.old «record».now) (world_of self.new) }
-        ensures sections { HasThoseOf self.old «record».now (Some id) → shown_in self.old.shown ≡ [] →
-            AreNumbered (shown_in self.new.shown) (sections_of self.old) (sections_of self.new) }
-        ensures told { shown_in self.old.shown ≡ [] → happened_in self.new ≡ event_told sources.now (world_of self.old)
-            (depths_of self.old) «record».now.number «record».now.thread id «record».now.event }
-        ensures details { HasThoseOf self.old «record».now (Some id) → details_of self.new ≡
-            details_by sources.now (world_of self.old) (depths_of self.old) (details_of self.old) «record».now id
-            «record».now.event }
-    {
+        let Some(id) = sources.ids.of_record(record.number) else {
+            return match record.event {
+                Event::Thread { priority, .. } => {
+                    self.begin(record.thread, priority);
+                    LeftOut::Remark
+                }
+                Event::Priority { .. } => LeftOut::Unchanged,
+                _ => LeftOut::Remark,
+            };
+        };
+        let otherwise = self.why_left_out(sources, record, id);
         match record.event {
             Event::Thread { priority, .. } => self.begin(record.thread, priority),
             Event::Priority { priority, .. } => self.set_level(id, priority),
@@ -200,25 +191,9 @@ impl Course {
             Event::Granted { mutex, .. } => self.grant(sources, record, &mutex, id),
             Event::Failed { .. } => self.fail(record.thread, id),
             Event::Release { .. } => self.release(sources, record, id),
-            _ => LeftOut::Remark,
+            _ => {}
         }
-    }
-
-    /// Goes on by a record of which it isn't known whom it is about. No thread's level changes by it, but of one that begins.
-    fn stay(&mut self, record: &Record) -> LeftOut
-        ensures size { HasSameSize self.old self.new }
-        ensures depths { KeepsDepths self.old self.new }
-        ensures sections { KeepsSections self.old self.new }
-        ensures shown { self.new.shown ≡ self.old.shown }
-        ensures world { «record».now.thread < length self.old.threads.items →
-            world_of self.new ≡ world_at self.old «record».now }
-        ensures details { KeepsDetails self.old self.new }
-    {
-        match record.event {
-            Event::Thread { priority, .. } => self.begin(record.thread, priority),
-            Event::Priority { .. } => LeftOut::Unchanged,
-            _ => LeftOut::Remark,
-        }
+        otherwise
     }
 
     /// Goes on by a request that the log lacks: the thread waits for the mutex.
@@ -244,7 +219,7 @@ impl Course {
     }
 
     /// A THREAD says with which level its thread begins.
-    fn begin(&mut self, thread: u32, priority: Priority) -> LeftOut
+    fn begin(&mut self, thread: u32, priority: Priority)
         ensures size { HasSameSize self.old self.new }
         ensures depths { KeepsDepths self.old self.new }
         ensures sections { KeepsSections self.old self.new }
@@ -257,10 +232,9 @@ impl Course {
         let mut is = self.thread(thread);
         is.level = level_of(priority, 0);
         self.put_thread(thread, is);
-        LeftOut::Remark
     }
 
-    fn set_level(&mut self, thread: u32, priority: Priority) -> LeftOut
+    fn set_level(&mut self, thread: u32, priority: Priority)
         ensures size { HasSameSize self.old self.new }
         ensures depths { KeepsDepths self.old self.new }
         ensures sections { Numbers 1 self.old self.new }
@@ -271,22 +245,21 @@ impl Course {
         let mut is = self.thread(thread);
         let level = level_of(priority, is.level);
         if level == is.level {
-            return LeftOut::Unchanged;
+            return;
         }
         is.level = level;
         self.put_thread(thread, is);
         self.shown.add(fact(What::Level(level), thread, None));
-        LeftOut::Absentee
     }
 
-    /// Learns the ceiling of a PROTECT mutex. Returns `Unchanged` unless a record of the thread says another than was known.
+    /// Learns the ceiling of a PROTECT mutex, if a record of the thread says another than was known.
     pub(crate) fn correct_ceiling(
         &mut self,
         sources: &Sources,
         thread: u32,
         said: &Mutex,
         mutex: u32,
-    ) -> LeftOut
+    )
         ensures size { HasSameSize self.old self.new }
         ensures depths { KeepsDepths self.old self.new }
         ensures sections { Numbers 1 self.old self.new }
@@ -300,17 +273,16 @@ impl Course {
             unwrap_or (ceiling_by_log (family_in sources.now mutex) said.now) ((world_of self.old).ceiling mutex) }
     {
         let Some(level) = ceiling_of(sources, said, mutex) else {
-            return LeftOut::Unchanged;
+            return;
         };
         let mut is = self.mutex(mutex);
         if is.ceiling == level {
-            return LeftOut::Unchanged;
+            return;
         }
         is.ceiling = level;
         self.put_mutex(mutex, is);
         let what = What::Ceiling { mutex, level };
         self.shown.add(fact(what, thread, is.section));
-        LeftOut::Uncontended
     }
 }
 
@@ -349,7 +321,7 @@ pub fn family_of(sources: &Sources, mutex: u32) -> Family
 }
 
 /// Returns the ceiling that a record says of its mutex, if that is a PROTECT one by the log.
-fn ceiling_of(sources: &Sources, said: &Mutex, mutex: u32) -> Option<u8>
+pub(crate) fn ceiling_of(sources: &Sources, said: &Mutex, mutex: u32) -> Option<u8>
     ensures { result ≡ ceiling_by_log (family_in sources.now mutex) said.now }
 {
     match family_of(sources, mutex) {

@@ -10,7 +10,8 @@
 //! [`reading_law`] says it of each record of a log). Each fact but a level has the number of its critical section. No other
 //! section has it, if there are fewer than 2^32 - 1 (specs/Sections.antt, [`sections_law`]). At each mutex the threads that
 //! wait are counted (specs/Waiting.antt, [`counted_law`]). Beside the facts it knows whose the mutex is for which a thread
-//! waits, places in the code, and whether the record contradicts others (specs/Details.antt).
+//! waits, places in the code, whether the record contradicts others (specs/Details.antt), and why the record is left out of
+//! a trace that shows nothing of it (specs/Reasons.antt).
 //!
 //! ```text
 //! let mut walk = Walk::new(alloc, &sources.ids)?;
@@ -22,6 +23,7 @@
 
 mod course;
 mod laws;
+mod left_out;
 mod next_owners;
 mod owners;
 mod requests;

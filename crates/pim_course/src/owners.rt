@@ -9,18 +9,12 @@ ghost use Rattle.pim_course.specs.Told.{depths_of, did, grant_told, heir_in, rel
 ghost use Rattle.pim_course.specs.World.{CanHappen, but_for, world_of};
 
 use crate::course::{Course, Sources, fact, is_recursive};
-use pim_facts::{Fact, Ids, LeftOut, What};
+use pim_facts::{Fact, Ids, What};
 use pim_log::{Call, Event, Mutex, Record};
 
 impl Course {
     /// A thread has a mutex. Its level isn't above the ceiling, unless it rose, or the ceiling fell, while it waited.
-    pub(crate) fn grant(
-        &mut self,
-        sources: &Sources,
-        record: &Record,
-        said: &Mutex,
-        mutex: u32,
-    ) -> LeftOut
+    pub(crate) fn grant(&mut self, sources: &Sources, record: &Record, said: &Mutex, mutex: u32)
         ensures size { HasSameSize self.old self.new }
         ensures depths { mutex < length self.old.mutexes.items → (m : ℕ) → depths_of self.new m ≡
             depth_granted sources.now.ids (world_of self.old) (depths_of self.old) «record».now.thread mutex m }
@@ -43,7 +37,6 @@ impl Course {
         self.is_contradiction = self.is_contradicted(sources, thread, mutex);
         self.free(owner, mutex, thread);
         self.take(record, mutex);
-        LeftOut::Uncontended
     }
 
     /// Returns whether the level of a thread that is granted a mutex is above the ceiling, as it mustn't be, unless it waited
@@ -76,7 +69,7 @@ impl Course {
     }
 
     /// A thread has once more what it owns. Only of a recursive mutex are the locks counted.
-    fn grant_again(&mut self, ids: &Ids, mutex: u32) -> LeftOut
+    fn grant_again(&mut self, ids: &Ids, mutex: u32)
         ensures size { HasSameSize self.old self.new }
         ensures depths { mutex < length self.old.mutexes.items →
             (m : ℕ) → depths_of self.new m ≡ depth_again ids.now (depths_of self.old) mutex m }
@@ -89,7 +82,6 @@ impl Course {
             is.depth = is.depth.saturating_add(1);
             self.put_mutex(mutex, is);
         }
-        LeftOut::Again
     }
 
     /// The thread of a record owns a mutex that is free, from the call on that the record ends.
@@ -127,7 +119,7 @@ impl Course {
     }
 
     /// A thread releases a mutex.
-    pub(crate) fn release(&mut self, sources: &Sources, record: &Record, mutex: u32) -> LeftOut
+    pub(crate) fn release(&mut self, sources: &Sources, record: &Record, mutex: u32)
         ensures size { HasSameSize self.old self.new }
         ensures depths { (m : ℕ) → depths_of self.new m ≡
             depth_released sources.now (world_of self.old) (depths_of self.old) «record».now.number «record».now.thread mutex m }
@@ -141,20 +133,19 @@ impl Course {
         let thread = record.thread;
         let mut is = self.mutex(mutex);
         if is.owner != Some(thread) {
-            return LeftOut::NotOwner;
+            return;
         }
         if sources.next_owners.is_refused(record.number) {
-            return LeftOut::Revoked;
+            return;
         }
         if is.depth > 1 {
             is.depth -= 1;
             self.put_mutex(mutex, is);
-            return LeftOut::Again;
+            return;
         }
         self.correct_wait(thread, None);
         let next = sources.next_owners.owner(record.number);
         self.hand_over(thread, mutex, next);
-        LeftOut::Uncontended
     }
 
     /// A mutex is free, and goes to the next owner if that waits for it.

@@ -9,7 +9,7 @@ ghost use Rattle.pim_course.specs.World.{CanHappen, world_of};
 
 use crate::course::{Course, Sources, fact, family_of, is_recursive};
 use crate::wait_owners::owner_asked;
-use pim_facts::{Family, LeftOut, What};
+use pim_facts::{Family, What};
 use pim_log::{Mutex, Record};
 
 impl Course {
@@ -21,7 +21,7 @@ impl Course {
         said: &Mutex,
         task: Option<u32>,
         mutex: u32,
-    ) -> LeftOut
+    )
         ensures size { HasSameSize self.old self.new }
         ensures depths { KeepsDepths self.old self.new }
         ensures goes { «record».now.thread < length self.old.threads.items → mutex < length self.old.mutexes.items →
@@ -36,18 +36,16 @@ impl Course {
         let thread = record.thread;
         let is = self.mutex(mutex);
         if is.owner == Some(thread) {
-            self.request_own(sources, record, mutex);
-            return LeftOut::Again;
+            return self.request_own(sources, record, mutex);
         }
         if self.thread(thread).awaits == Some(mutex) {
-            return LeftOut::Again;
+            return;
         }
         self.correct_ceiling(sources, thread, said, mutex);
         self.correct_wait(thread, Some(mutex));
         let owner = owner_asked(sources, record, task.is_some(), &is);
         self.ask_at(thread, record.place);
         self.wait(sources, thread, mutex, owner);
-        LeftOut::Uncontended
     }
 
     /// A thread asks for the mutex that it owns: unless that is recursive, it waits for itself.
@@ -138,7 +136,7 @@ impl Course {
     }
 
     /// A call of a thread wasn't granted the mutex.
-    pub(crate) fn fail(&mut self, thread: u32, mutex: u32) -> LeftOut
+    pub(crate) fn fail(&mut self, thread: u32, mutex: u32)
         ensures size { HasSameSize self.old self.new }
         ensures depths { KeepsDepths self.old self.new }
         ensures sections { Numbers 1 self.old self.new }
@@ -149,10 +147,9 @@ impl Course {
     {
         self.forget_own(thread);
         if self.thread(thread).awaits != Some(mutex) {
-            return LeftOut::Refused;
+            return;
         }
         self.stop_waiting(thread, mutex);
-        LeftOut::Uncontended
     }
 
     /// Keeps that a thread doesn't wait for its own mutex.

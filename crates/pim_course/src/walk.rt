@@ -5,6 +5,7 @@ ghost use Rattle.pim_facts.specs.Shown.{shown_in};
 ghost use Rattle.pim_course.specs.Details.{added_details, details_of};
 ghost use Rattle.pim_course.specs.Going.{HasSameSize, KeepsDepths, KeepsDetails, KeepsSections};
 ghost use Rattle.pim_course.specs.Reading.{Begins, GoesBy, HasRequest, IsTimeOf, LacksRecord};
+ghost use Rattle.pim_course.specs.Reasons.{IsReasonOf};
 ghost use Rattle.pim_course.specs.Requests.{AreBehind};
 ghost use Rattle.pim_course.specs.Sections.{AreNumbered, sections_of};
 ghost use Rattle.pim_course.specs.Told.{added_told, happened_in};
@@ -61,6 +62,7 @@ impl Walk {
         ensures size { HasSameSize self.old.course self.new.course }
         ensures added { self.new.added ≡ self.old.added }
         ensures time { IsTimeOf log.now number result.time }
+        ensures otherwise { IsReasonOf log.now sources.now number self.old.course result.otherwise }
         ensures shown { (LacksRecord log.now number × (shown_in self.new.course.shown ≡ [])
             × (world_of self.new.course ≡ world_of self.old.course) × KeepsDepths self.old.course self.new.course
             × KeepsSections self.old.course self.new.course × KeepsDetails self.old.course self.new.course)
