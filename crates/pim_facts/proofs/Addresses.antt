@@ -1,9 +1,9 @@
 -- The map of the addresses, and what is beside it, from mutex to mutex.
-use Rattle.std.proofs.Common.{◌≡◌, ◌≢◌, ◌⊎◌, ℕ, ◌==◌, ◌&&◌, Bool, true, false, cond, List, length, set, get_or, Option, Some, None, refl, sym, ap, subst, ◌∙◌, inl, inr, eq-eqb, arith}
+use Rattle.std.proofs.Common.{◌≡◌, ◌≢◌, ◌⊎◌, ℕ, ◌==◌, ◌&&◌, Bool, true, false, cond, List, [], ◌∷◌, length, set, get_or, Option, Some, None, refl, sym, ap, subst, ◌∙◌, inl, inr, eq-eqb, arith}
 use Rattle.std.proofs.lemmas.Bool.{cases_eq, cases_lt, eqb-true}
-use Rattle.std.proofs.lemmas.List.{get_or-set_other, get_or-set_same, get_or_past, length-set}
+use Rattle.std.proofs.lemmas.List.{get_or-set_other, get_or-set_same, get_or_past, length-append, length-set}
 use Rattle.std.specs.Option.{option_or}
-use Rattle.pim_facts.specs.Addresses.{Addresses, KnowsPlaces, mapped, meant, next_mutex, place_beside, with_mutex}
+use Rattle.pim_facts.specs.Addresses.{Addresses, KnowsPlaces, mapped, meant, next_mutex, owner_by, place_beside, with_mutex}
 use Rattle.pim_facts.specs.declared.places.Found.{Found}
 use Rattle.pim_facts.specs.declared.places.Places.{Places}
 
@@ -33,13 +33,15 @@ beside-at xs i k f g at = elim (cases_eq k i) [
 
 -- the mutex that a process means is put beside the map
 pub keeps : (known : Addresses) (old new : Places) (process address m : ℕ) → new.mutexes ≡ old.mutexes →
+    new.count ≡ old.count →
     new.found.items ≡ set old.found.items (place_beside address) (Some (record { process = process; mutex = m; address = address })) →
     meant known process address ≡ Some m → KnowsPlaces known old → KnowsPlaces known new
-keeps known old new process address m maps puts is knows =
+keeps known old new process address m maps count puts is knows =
     let f : Found = record { process = process; mutex = m; address = address } in
     let same : (owner : Option ℕ) (a : ℕ) → mapped new owner a ≡ mapped old owner a =
     λ owner a. ap (λ map. mapped (record old { mutexes = map }) owner a) maps in
     record {
+      count = count ∙ knows.count;
       own = λ p a. same (Some p) a ∙ knows.own p a;
       shared = λ a. same None a ∙ knows.shared a;
       beside = λ k g at.
@@ -95,17 +97,18 @@ meant-there known shared process address p a other =
 
 -- a mutex begins
 pub begins : (known : Addresses) (old kept new : Places) (shared : Bool) (process address m : ℕ) → KnowsPlaces known old →
-    m ≡ next_mutex known → kept.mutexes ≡ old.mutexes →
+    m ≡ next_mutex known → new.count ≡ m → kept.mutexes ≡ old.mutexes →
     kept.found.items ≡ set old.found.items (place_beside address) (Some (record { process = process; mutex = m; address = address })) →
     new.found.items ≡ kept.found.items →
     ((p a : ℕ) → mapped new (Some p) a ≡ cond (process == p && address == a) (cond shared None (Some m)) (mapped kept (Some p) a)) →
     ((a : ℕ) → mapped new None a ≡ cond (shared && address == a) (Some m) (mapped kept None a)) →
     KnowsPlaces (with_mutex shared process address known) new
-begins known old kept new shared process address m knows is maps puts stays own-is shared-is =
+begins known old kept new shared process address m knows is counts maps puts stays own-is shared-is =
     let f : Found = record { process = process; mutex = m; address = address } in
     let same : (owner : Option ℕ) (a : ℕ) → mapped kept owner a ≡ mapped old owner a =
     λ owner a. ap (λ map. mapped (record old { mutexes = map }) owner a) maps in
     record {
+      count = counts ∙ is ∙ sym (length-append known.begun ((owner_by shared process, address) ∷ []));
       own = λ p a. own-is p a ∙ ap (λ n. cond (process == p && address == a) (cond shared None (Some n)) (mapped kept (Some p) a)) is
           ∙ ap (λ o. cond (process == p && address == a) (cond shared None (Some (next_mutex known))) o)
           (same (Some p) a ∙ knows.own p a);

@@ -12,13 +12,14 @@ use Rattle.pim_log.specs.Headers.{header_of, end_of}
 use Rattle.pim_log.specs.Logs.{IsLog, IsNumbered, IsRecord}
 use Rattle.pim_log.specs.declared.mutex.Mutex.{Mutex}
 use Rattle.pim_log.specs.declared.record.Record.{Record}
-use Rattle.pim_facts.specs.Addresses.{Addresses, FindsMutexes, HasAddresses, IsMeant, IsOfMeant, KnowsAddresses, KnowsPlaces, addresses_of, after_record, behind, is_init, meant, mutex_by, next_mutex, owner_by, places_of, says_shared, there_before, with_mutex}
+use Rattle.pim_facts.specs.Addresses.{Addresses, FindsMutexes, HasAddresses, IsMeant, IsOfMeant, KnowsAddresses, KnowsPlaces, about_by, addresses_of, after_record, behind, is_init, meant, mutex_by, next_mutex, owner_by, places_of, says_shared, there_before, with_mutex}
 use Rattle.pim_facts.specs.Covering.{Grows, HasId, HasKnownMutex, HasRead, HasThread}
 use Rattle.pim_facts.specs.Levels.{id_in, id_of}
 use Rattle.pim_facts.specs.Naming.{AreBelow, IsAt}
 use Rattle.pim_facts.specs.Placing.{FindsByAddress, has_at, is_at}
 use Rattle.pim_facts.specs.declared.ids.Ids.{Ids}
 use Rattle.pim_facts.specs.declared.ids.LoggedMutex.{LoggedMutex}
+use Rattle.pim_facts.specs.declared.places.About.TheVariants.{Known, New}
 use Rattle.pim_facts.specs.declared.places.Places.{Places}
 use Rattle.pim_facts.proofs.Covered.{not-zero, of_number}
 use Rattle.pim_facts.proofs.Giving.{none-first, same-at}
@@ -41,15 +42,68 @@ next known ids places n is knows =
     let begun : length (places_of ids) ≡ length ((None, 0) ∷ known.begun) = ap (λ xs. length xs) knows.begun in
     omega (arith, is, long, begun)
 
+-- where the mutexes are behind one more
+pub appends : (ms kept now : List LoggedMutex) (m : LoggedMutex) (p : Option ℕ × ℕ) → kept ≡ ms → now ≡ kept ++ m ∷ [] →
+    place m ≡ p → map place now ≡ map place ms ++ p ∷ []
+appends ms kept now m p stay items at =
+    ap (map place) (items ∙ ap (λ xs. xs ++ m ∷ []) stay) ∙ map-append place ms (m ∷ [])
+    ∙ ap (λ q. map place ms ++ q ∷ []) at
+
 -- where the mutexes are once one more began
-pub begins : (known : Addresses) (ids : Ids) (places : Places) (kept ms : List LoggedMutex) (m : LoggedMutex) (shared : Bool)
-    (process : ℕ) (mutex : Mutex) → kept ≡ ids.mutexes.items → ms ≡ kept ++ m ∷ [] →
-    place m ≡ (owner_by shared process, mutex.address) → shared ≡ says_shared mutex → KnowsAddresses known ids places →
-    map place ms ≡ (None, 0) ∷ (with_mutex (says_shared mutex) process mutex.address known).begun
-begins known ids places kept ms m shared process mutex stay items at is knows =
-    ap (map place) (items ∙ ap (λ xs. xs ++ m ∷ []) stay) ∙ map-append place ids.mutexes.items (m ∷ [])
-    ∙ ap (λ xs. xs ++ place m ∷ []) knows.begun
-    ∙ ap (λ p. (None, 0) ∷ known.begun ++ p ∷ []) (at ∙ ap (λ b. (owner_by b process, mutex.address)) is)
+pub begins : (known : Addresses) (ids : Ids) (places : Places) (ms : List (Option ℕ × ℕ)) (r : Record) (mutex : Mutex) →
+    ms ≡ places_of ids ++ (owner_by (says_shared mutex) r.process, mutex.address) ∷ [] →
+    behind known r mutex ≡ with_mutex (says_shared mutex) r.process mutex.address known → KnowsAddresses known ids places →
+    ms ≡ (None, 0) ∷ (behind known r mutex).begun
+begins known ids places ms r mutex put new knows =
+    put ∙ ap (λ xs. xs ++ (owner_by (says_shared mutex) r.process, mutex.address) ∷ []) knows.begun
+    ∙ sym (ap (λ k. (None, 0) ∷ k.begun) new)
+
+-- the mutex of a record began before it
+pub record IsOfKnown (known : Addresses) (r : Record) (mutex : Mutex) (m : ℕ) : Type 0 where
+  pub meant : meant known r.process mutex.address ≡ Some m
+  pub is : m ≡ mutex_by known r mutex
+  pub same : behind known r mutex ≡ known
+
+-- the mutex of a record begins with it
+pub record IsOfNew (known : Addresses) (r : Record) (mutex : Mutex) (m : ℕ) : Type 0 where
+  pub next : m ≡ next_mutex known
+  pub is : m ≡ mutex_by known r mutex
+  pub begins : behind known r mutex ≡ with_mutex (says_shared mutex) r.process mutex.address known
+
+there-known : (known : Addresses) (m : ℕ) (t : Option ℕ) → Known m ≡ option_map_or (λ k. Known k) t (New (next_mutex known)) →
+    t ≡ Some m
+there-known known m None e = cc
+there-known known m (Some k) e = cc
+
+there-new : (known : Addresses) (m : ℕ) (t : Option ℕ) → New m ≡ option_map_or (λ k. Known k) t (New (next_mutex known)) →
+    (t ≡ None) × (m ≡ next_mutex known)
+there-new known m None e = (refl, cc)
+there-new known m (Some k) e = cc
+
+not-init : (b : Bool) (t : Option ℕ) (m : ℕ) → cond b None t ≡ Some m → t ≡ Some m
+not-init true t m e = cc
+not-init false t m e = e
+
+pub of-known : (known : Addresses) (r : Record) (mutex : Mutex) (m : ℕ) → Known m ≡ about_by known r mutex →
+    IsOfKnown known r mutex m
+of-known known r mutex m is =
+    let t : there_before known r mutex ≡ Some m = there-known known m (there_before known r mutex) is in
+    record {
+      meant = not-init (is_init r.event) (meant known r.process mutex.address) m t;
+      is = sym (ap (λ o. unwrap_or o (next_mutex known)) t);
+      same = ap (λ o. option_map_or (λ _. known) o (with_mutex (says_shared mutex) r.process mutex.address known)) t;
+    }
+
+pub of-new : (known : Addresses) (r : Record) (mutex : Mutex) (m : ℕ) → New m ≡ about_by known r mutex →
+    IsOfNew known r mutex m
+of-new known r mutex m is =
+    let t : (there_before known r mutex ≡ None) × (m ≡ next_mutex known) =
+    there-new known m (there_before known r mutex) is in
+    record {
+      next = t.1;
+      is = t.1 ∙ sym (ap (λ o. unwrap_or o (next_mutex known)) t.0);
+      begins = ap (λ o. option_map_or (λ _. known) o (with_mutex (says_shared mutex) r.process mutex.address known)) t.0;
+    }
 
 -- whether a place is at an address of a process
 abbrev at_place : ℕ → ℕ → Option ℕ × ℕ → Bool
@@ -313,8 +367,8 @@ reads bytes n old mid new was is r id found grows about put rest read has its kn
       ];
     }
 
--- no record is behind the last one
-up-to-end : (bytes : List ℕ) (n : ℕ) (rs : List Record) → end_of (header_of bytes) ≤ n → AreBelow bytes n rs →
+-- behind the last record there is no other one
+pub up-to-end : (bytes : List ℕ) (n : ℕ) (rs : List Record) → end_of (header_of bytes) ≤ n → AreBelow bytes n rs →
     AreBelow bytes (end_of (header_of bytes)) rs
 up-to-end bytes n [] past are = λ k slot from lt numbered. are k slot from (omega (arith, lt, past)) numbered
 up-to-end bytes n (r ∷ rs) past are =

@@ -15,6 +15,8 @@ use Rattle.pim_log.specs.declared.record.Record.{Record}
 use Rattle.pim_facts.specs.Levels.{id_of}
 use Rattle.pim_facts.specs.Naming.{AreBelow, IsAt}
 use Rattle.pim_facts.specs.declared.ids.Ids.{Ids}
+use Rattle.pim_facts.specs.declared.places.About.{About}
+use Rattle.pim_facts.specs.declared.places.About.TheVariants.{Known, New}
 use Rattle.pim_facts.specs.declared.places.Found.{Found}
 use Rattle.pim_facts.specs.declared.places.Places.{Places}
 
@@ -61,6 +63,10 @@ there_before known r mutex = if is_init r.event then None else meant known r.pro
 -- the mutex that a record is about: it begins with the record if none is there before
 abbrev pub mutex_by : Addresses → Record → Mutex → ℕ
 mutex_by known r mutex = unwrap_or (there_before known r mutex) (next_mutex known)
+
+-- so it is said whether that began before, or begins with the record
+abbrev pub about_by : Addresses → Record → Mutex → About
+about_by known r mutex = option_map_or (λ m. Known m) (there_before known r mutex) (New (next_mutex known))
 
 -- one more record of a mutex was read
 abbrev pub behind : Addresses → Record → Mutex → Addresses
@@ -114,8 +120,10 @@ mapped places owner address = hash.get same_place places.mutexes (owner, address
 abbrev pub place_beside : ℕ → ℕ
 place_beside address = address / 8 % 1021
 
--- the map has what addresses mean, and each mutex beside it is at its place, and is the one that its process means
+-- the count is that of the mutexes that began. The map has what addresses mean, and each mutex beside it is at its place,
+-- and is the one that its process means
 pub record KnowsPlaces (known : Addresses) (places : Places) : Type 0 where
+  pub count : places.count ≡ length known.begun
   pub own : (process address : ℕ) → mapped places (Some process) address ≡ known.own process address
   pub shared : (address : ℕ) → mapped places None address ≡ known.shared address
   pub beside : (place : ℕ) (found : Found) → slice_index_or places.found.items place None ≡ Some found →

@@ -1,6 +1,6 @@
 //! Whom each record of a log is about.
-ghost use Rattle.std.specs.Prelude.{◌≡◌, ◌+◌, ◌<◌, ◌≤◌, ◌^◌, ℕ, IfErr, IfNone, IfOk, IfSome, false, List};
-ghost use Rattle.std.specs.Prelude.{Some, None, [], ◌∷◌, length, slice_set};
+ghost use Rattle.std.specs.Prelude.{◌≡◌, ◌+◌, ◌<◌, ◌≤◌, ◌^◌, ℕ, IfErr, IfNone, IfOk, IfSome, List};
+ghost use Rattle.std.specs.Prelude.{false, Some, None, [], ◌∷◌, ◌++◌, length, slice_set};
 ghost use Rattle.std.specs.Option.{option_map, option_map_or, unwrap_or};
 ghost use Rattle.pim_log.specs.declared.record.Record.{Record};
 ghost use Rattle.pim_log.specs.Events.{mutex_of};
@@ -14,8 +14,7 @@ ghost use Rattle.pim_facts.specs.declared.fault.IdsFault.TheVariants as ids;
 ghost use Rattle.pim_facts.specs.Naming.{HasNamed, Names};
 ghost use Rattle.pim_facts.specs.Giving.{AddsLevel, AddsLevelsOf, HasLevels, KnowsGiven, level_given, priority_said};
 ghost use Rattle.pim_facts.specs.Addresses.{Addresses, FindsMutexes, HasAddresses, IsMeant, KnowsAddresses};
-ghost use Rattle.pim_facts.specs.Addresses.{addresses_of, after_record, behind, is_init, mutex_by, next_mutex, owner_by};
-ghost use Rattle.pim_facts.specs.Addresses.{places_of, says_shared, with_mutex};
+ghost use Rattle.pim_facts.specs.Addresses.{addresses_of, after_record, behind, mutex_by, owner_by, places_of, says_shared};
 ghost use Rattle.pim_facts.specs.Knowing.{KnowsBelow, KnowsMutexes, Learns, LearnsOf};
 ghost use Rattle.pim_facts.specs.Logged.{ChangesThread, HasLogged, HasThreads, KeepsThreads, met_by, with_begun};
 ghost use Rattle.pim_facts.specs.Meaning.{HasBegun, MeansBelow, MeansThreads, thread_found};
@@ -24,7 +23,7 @@ ghost use Rattle.pim_facts.specs.Placing.{FindsByAddress};
 use crate::family::{Family, ceiling_in, family_in};
 use crate::fault::IdsFault;
 use crate::level::{MAX_LEVEL, level_of};
-use crate::places::Places;
+use crate::places::{About, Places, is_shared};
 use crate::tasks::{Named, Tasks};
 use pim_log::{Event, Log, Mutex, Priority, Record, ThreadKey};
 use std::alloc::{AllocError, Global};
@@ -81,10 +80,11 @@ const NO_THREAD: LoggedThread = LoggedThread {
 };
 
 impl Ids {
-    /// Returns whom each record of the log is about, and which threads its requests name. A record of a mutex is about the one
-    /// that its process has at the address, or else the one that processes share there. An INIT is about a new one, and so is
-    /// the first record at an address. Any other record is about the thread that begins with it, or about the last one that
-    /// began with the task, or in its process with the pthread_t, that it names. Each takes four bytes a record.
+    /// Returns whom each record of the log is about, and which threads its requests name. A record of a mutex is about
+    /// the one that its process has at the address, or else the one that processes share there. An INIT is about a new
+    /// one, and so is the first record at an address. Any other record is about the thread that begins with it, or about
+    /// the last one that began with the task, or in its process with the pthread_t, that it names. Each takes four bytes a
+    /// record.
     ///
     /// # Errors
     ///
@@ -272,10 +272,16 @@ impl Ids {
         ensures kinds { (before : List Record) → KnowsAddresses (addresses_of before) self.old places.old →
             IfOk result (λ m. Learns m mutex.now.kind self.old self.new) }
     {
-        if matches!(record.event, Event::Init(_)) {
-            self.begin_mutex(places, record, mutex)
-        } else {
-            self.find_mutex(places, record, mutex)
+        let about = places.read(record, mutex)?;
+        match about {
+            About::Known(number) => {
+                self.learn(number, mutex);
+                Ok(number)
+            }
+            About::New(number) => {
+                self.begin_mutex(record.process, mutex)?;
+                Ok(number)
+            }
         }
     }
 
@@ -403,64 +409,27 @@ impl Ids {
         }
     }
 
-    /// Returns the number of the mutex of a record. It is a new one where the log didn't name it before.
-    fn find_mutex(
-        &mut self,
-        places: &mut Places,
-        record: &Record,
-        mutex: &Mutex,
-    ) -> Result<u32, AllocError>
+    /// Adds a mutex that begins with a record of this process.
+    fn begin_mutex(&mut self, process: u32, mutex: &Mutex) -> Result<(), AllocError>
         ensures grown { Grows self.old self.new }
         ensures levels { IfOk result (λ _. AddsLevel (ceiling_said mutex.now) self.old self.new) }
-        ensures mutexes { (known : Addresses) → KnowsAddresses known self.old places.old →
-            is_init «record».now.event ≡ false → IfOk result (λ m. (m ≡ mutex_by known «record».now mutex.now)
-            × KnowsAddresses (behind known «record».now mutex.now) self.new places.new) }
+        ensures places { IfOk result (λ _. places_of self.new ≡
+            places_of self.old ++ (owner_by (says_shared mutex.now) process, mutex.now.address) ∷ []) }
         ensures threads { IfOk result (λ _. self.new.threads ≡ self.old.threads) }
-        ensures kinds { (before : List Record) → KnowsAddresses (addresses_of before) self.old places.old →
-            IfOk result (λ m. Learns m mutex.now.kind self.old self.new) }
+        ensures kinds { IfOk result (λ _. Learns (length self.old.mutexes.items) mutex.now.kind self.old self.new) }
     {
-        match places.mutex(record.process, mutex.address) {
-            Some(number) => {
-                self.learn(number, mutex);
-                Ok(number)
-            }
-            None => self.begin_mutex(places, record, mutex),
-        }
-    }
-
-    /// Adds a mutex, which is the one at its address from now on.
-    fn begin_mutex(
-        &mut self,
-        places: &mut Places,
-        record: &Record,
-        mutex: &Mutex,
-    ) -> Result<u32, AllocError>
-        ensures grown { Grows self.old self.new }
-        ensures levels { IfOk result (λ _. AddsLevel (ceiling_said mutex.now) self.old self.new) }
-        ensures mutexes { (known : Addresses) → KnowsAddresses known self.old places.old → IfOk result (λ m.
-            (m ≡ next_mutex known) × KnowsAddresses
-            (with_mutex (says_shared mutex.now) «record».now.process mutex.now.address known) self.new places.new) }
-        ensures threads { IfOk result (λ _. self.new.threads ≡ self.old.threads) }
-        ensures kinds { IfOk result (λ m. Learns m mutex.now.kind self.old self.new) }
-    {
-        let count = self.mutexes.len();
-        if count > u32::MAX as usize {
-            return Err(AllocError);
-        }
-        let number = count as u32;
-        let is_shared = is_shared(mutex);
-        let process = owner_of(is_shared, record.process);
         let ceiling = ceiling_in(mutex);
         self.keep_ceiling(ceiling);
+        let is_shared = is_shared(mutex);
+        let owner = owner_of(is_shared, process);
         self.mutexes.push(LoggedMutex {
-            process,
+            process: owner,
             address: mutex.address,
             family: family_in(mutex),
             ceiling: ceiling.unwrap_or(0),
             is_recursive: is_recursive(mutex),
         })?;
-        places.begin_mutex(record.process, is_shared, mutex.address, number)?;
-        Ok(number)
+        Ok(())
     }
 
     /// Learns of a mutex what a record says, if none before said it.
@@ -479,16 +448,6 @@ impl Ids {
             self.mutexes[place].ceiling = ceiling.unwrap_or(0);
             self.mutexes[place].is_recursive = is_recursive(mutex);
         }
-    }
-}
-
-/// Returns whether a record says that processes share its mutex.
-fn is_shared(mutex: &Mutex) -> bool
-    ensures { result ≡ says_shared mutex.now }
-{
-    match mutex.kind {
-        Some(kind) => kind.is_shared,
-        None => false,
     }
 }
 

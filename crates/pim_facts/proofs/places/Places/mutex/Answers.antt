@@ -26,4 +26,4 @@ returns-in_ok-found-in_default-clause-known c known knows =
     let is : meant known c.args.process c.args.address ≡ Some c.in_ok-found-in_default.found =
     sym (by-map known c.in_default.self c.args.process c.args.address still) ∙ sym c.in_ok-found-in_default.ensures in
     keeps known c.in_default.self c.keep_found.new.self c.args.process c.args.address c.in_ok-found-in_default.found
-    c.keep_found.ensures.map c.keep_found.ensures.beside is still
+    c.keep_found.ensures.map c.keep_found.ensures.count c.keep_found.ensures.beside is still
