@@ -20,11 +20,11 @@ use Rattle.pim_facts.specs.Covering.{Covers, HasId, HasKnownMutex, HasThoseOf}
 use Rattle.pim_facts.specs.Levels.{id_of}
 use Rattle.pim_facts.specs.declared.ids.Ids.{Ids}
 use Rattle.pim_course.specs.declared.requests.Request.{Request}
-use Rattle.pim_requests.specs.Asked.{HasMovedOn, IsAfter, IsGrant, IsIn, IsNextOf, IsOfCall, LacksRequest}
+use Rattle.pim_requests.specs.Asked.{HasMovedOn, IsAfter, IsGrant, IsIn, IsLater, IsNextOf, IsOfCall, LacksRequest}
 use Rattle.pim_requests.specs.Asked.{MayHaveWaited, ShowsWait}
 use Rattle.pim_requests.specs.Asked.{is_answer, is_request}
 use Rattle.pim_requests.specs.Asking.{asked_after}
-use Rattle.pim_requests.specs.Complete.{EndsWith, HasRequestOf, HasThoseOfCalls, IsLater, IsShownBy, LastedAt}
+use Rattle.pim_requests.specs.Complete.{EndsWith, HasRequestOf, HasThoseOfCalls, IsShownBy, LastedAt}
 use Rattle.pim_requests.specs.Complete.{WaitedSilently}
 use Rattle.pim_requests.specs.Granting.{HasEnded, HasThoseBefore, IsAsked, IsUpTo, KnowsLatest, MissesNone}
 use Rattle.pim_requests.specs.declared.waits.Wait.{Wait}

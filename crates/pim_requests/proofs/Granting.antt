@@ -15,8 +15,8 @@ use Rattle.pim_log.specs.Logs.{IsLog, IsNumbered, IsRecord}
 use Rattle.pim_log.specs.declared.record.Record.{Record}
 use Rattle.pim_facts.specs.Levels.{id_of}
 use Rattle.pim_facts.specs.declared.ids.Ids.{Ids}
-use Rattle.pim_requests.specs.Asked.{IsGrant, IsIn}
-use Rattle.pim_requests.specs.Complete.{IsFirstAfter, IsGrantOf, IsLater}
+use Rattle.pim_requests.specs.Asked.{IsGrant, IsIn, IsLater}
+use Rattle.pim_requests.specs.Complete.{IsFirstAfter, IsGrantOf}
 use Rattle.pim_requests.specs.Granting.{KnowsAll, KnowsGrants, at, latest_of, no_grant}
 use Rattle.pim_requests.specs.declared.grants.Grant.{Grant}
 use Rattle.pim_requests.specs.declared.grants.Grants.{Grants}

@@ -57,9 +57,9 @@ of-call bytes ids course r covers all is =
       subst (λ n. r.mutex < n) (sym all.mutexes) number.1,
     )
 
-of-wait : (ids : Ids) (waits : List Wait) (course : Course) (r : Request) → HasAllOf ids course → HasWait ids waits r →
-    HasBoth course r
-of-wait ids waits course r all is = (
+of-wait : (bytes : List ℕ) (ids : Ids) (waits : List Wait) (course : Course) (r : Request) →
+    HasAllOf ids course → HasWait bytes ids waits r → HasBoth course r
+of-wait bytes ids waits course r all is = (
   subst (λ n. r.thread < n) (sym all.threads) (slice_get_within ids.threads.items r.thread is.of.thread is.of.has_thread),
   subst (λ n. r.mutex < n) (sym all.mutexes) (slice_get_within ids.mutexes.items r.mutex is.of.mutex is.of.has_mutex),
 )
@@ -74,7 +74,7 @@ shown-has : (bytes : List ℕ) (ids : Ids) (waits : List Wait) (course : Course)
 shown-has bytes ids waits course r covers all shown =
     elim shown [
       | inl call ↦ of-call bytes ids course r covers all call
-      | inr wait ↦ of-wait ids waits course r all wait.has
+      | inr wait ↦ of-wait bytes ids waits course r all wait.has
     ]
 
 pub has-requests : RequestsLaw

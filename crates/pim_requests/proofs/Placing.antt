@@ -14,7 +14,7 @@ use Rattle.pim_facts.specs.declared.ids.Ids.{Ids}
 use Rattle.pim_course.specs.declared.requests.Request.{Request}
 use Rattle.pim_requests.specs.Asked.{HasNext, HasPlace, HasWait, IsIn, IsNextOf, IsOfWait}
 use Rattle.pim_requests.specs.Granting.{HasEnded}
-use Rattle.pim_requests.specs.Searching.{HasEnd, IsNextFrom, IsOpen, KnowsEnds, KnowsLast, KnowsOpen, KnowsPlaces}
+use Rattle.pim_requests.specs.Searching.{HasEnd, IsNextFrom, IsOpen, KnowsEnds, KnowsLast, KnowsOpen, KnowsWhere}
 use Rattle.pim_requests.specs.declared.waits.Asked.{Asked}
 use Rattle.pim_requests.specs.declared.waits.Search.{Search}
 use Rattle.pim_requests.specs.declared.waits.Wait.{Wait}
@@ -399,7 +399,7 @@ all-ended bytes ids waits n list ends shown all =
 
 -- behind a number that no record has
 pub places-past : (bytes : List ℕ) (ids : Ids) (n : ℕ) (s : Search) → ((slot : ℕ) → IsNumbered bytes slot n → ⊥) →
-    KnowsPlaces bytes ids n s → KnowsPlaces bytes ids (n + 1) s
+    KnowsWhere bytes ids n s → KnowsWhere bytes ids (n + 1) s
 places-past bytes ids n s lacks knows = record {
   last_room = knows.last_room;
   asked_room = knows.asked_room;
@@ -412,7 +412,7 @@ places-past bytes ids n s lacks knows = record {
 
 -- behind the end of a log
 pub places-end : (bytes : List ℕ) (ids : Ids) (n m : ℕ) (s : Search) → end_of (header_of bytes) ≤ n →
-    end_of (header_of bytes) ≤ m → KnowsPlaces bytes ids n s → KnowsPlaces bytes ids m s
+    end_of (header_of bytes) ≤ m → KnowsWhere bytes ids n s → KnowsWhere bytes ids m s
 places-end bytes ids n m s low high knows = record {
   last_room = knows.last_room;
   asked_room = knows.asked_room;
@@ -425,7 +425,7 @@ places-end bytes ids n m s low high knows = record {
 
 -- a search that knows the same
 pub places-kept : (bytes : List ℕ) (ids : Ids) (n : ℕ) (s t : Search) → t.last ≡ s.last → t.asked ≡ s.asked →
-    t.found ≡ s.found → KnowsPlaces bytes ids n s → KnowsPlaces bytes ids n t
+    t.found ≡ s.found → KnowsWhere bytes ids n s → KnowsWhere bytes ids n t
 places-kept bytes ids n s t last asked found knows = record {
   last_room = ap (λ v. length v.items) last ∙ knows.last_room;
   asked_room = ap (λ v. length v.items) asked ∙ knows.asked_room;
@@ -449,7 +449,7 @@ none-in n t k xs same e = elim (cases_lt t n) [
 -- before the first record
 pub places-first : (bytes : List ℕ) (ids : Ids) (s : Search) → s.last.items ≡ replicate (length ids.threads.items) None →
     s.asked.items ≡ replicate (length ids.threads.items) None → s.found.list.items ≡ [] → s.found.ends.items ≡ [] →
-    KnowsPlaces bytes ids 1 s
+    KnowsWhere bytes ids 1 s
 places-first bytes ids s last asked found ends = record {
   last_room = ap length last ∙ length-replicate (length ids.threads.items) None;
   asked_room = ap length asked ∙ length-replicate (length ids.threads.items) None;
@@ -514,23 +514,23 @@ placed-at bytes n k asked list q end known at = elim (known.others k q at) [
 ]
 
 each-placed : (bytes : List ℕ) (ids : Ids) (waits : List Wait) (n : ℕ) (asked : List (Option ℕ)) (list : List Request) →
-    end_of (header_of bytes) ≤ n → All (HasWait ids waits) list → KnowsOpen bytes n asked list →
+    end_of (header_of bytes) ≤ n → All (HasWait bytes ids waits) list → KnowsOpen bytes n asked list →
     All (IsOfWait bytes ids waits) list
 each-placed bytes ids waits n asked [] end all known = All-nil (IsOfWait bytes ids waits)
 each-placed bytes ids waits n asked (q ∷ qs) end all known =
     All-from_get_or (IsOfWait bytes ids waits) (q ∷ qs) q
     (λ i lt. record {
-      has = All-get_or (HasWait ids waits) (q ∷ qs) i q lt all;
+      has = All-get_or (HasWait bytes ids waits) (q ∷ qs) i q lt all;
       place =
           placed-at bytes n i asked (q ∷ qs) (get_or (q ∷ qs) i q) end known (slice_get-get_or (q ∷ qs) i q lt);
     })
 
 pub all-placed : (bytes : List ℕ) (ids : Ids) (waits : List Wait) (n : ℕ) (s : Search) (list : List Request) →
-    list ≡ s.found.list.items → end_of (header_of bytes) ≤ n → All (HasWait ids waits) s.found.list.items →
-    KnowsPlaces bytes ids n s → All (IsOfWait bytes ids waits) list
+    list ≡ s.found.list.items → end_of (header_of bytes) ≤ n → All (HasWait bytes ids waits) s.found.list.items →
+    KnowsWhere bytes ids n s → All (IsOfWait bytes ids waits) list
 all-placed bytes ids waits n s list same end all knows =
     each-placed bytes ids waits n s.asked.items list end
-    (subst (λ l. All (HasWait ids waits) l) (sym same) all)
+    (subst (λ l. All (HasWait bytes ids waits) l) (sym same) all)
     (subst (λ l. KnowsOpen bytes n s.asked.items l) (sym same) knows.asked)
 
 -- with another request
@@ -539,8 +539,8 @@ pub places-more : (bytes : List ℕ) (ids : Ids) (n next : ℕ) (s t : Search) (
     t.found.list.items ≡ s.found.list.items ++ q ∷ [] → t.found.ends ≡ s.found.ends → 0 < q.after →
     get_or s.asked.items q.thread None ≡ None →
     IfSome (get_or s.last.items q.thread None) (λ l. l ≤ q.after) → q.after < next →
-    q.thread < length ids.threads.items → q.place ≡ None → IsNextFrom bytes q.thread n next → KnowsPlaces bytes ids n s →
-    KnowsPlaces bytes ids n t
+    q.thread < length ids.threads.items → q.place ≡ None → IsNextFrom bytes q.thread n next → KnowsWhere bytes ids n s →
+    KnowsWhere bytes ids n t
 places-more bytes ids n next s t q last put more ends above free behind before lt place from knows =
     let in_asked : q.thread < length s.asked.items = subst (λ k. q.thread < k) (sym knows.asked_room) lt in
     let in_last : q.thread < length s.last.items = subst (λ k. q.thread < k) (sym knows.last_room) lt in
@@ -557,8 +557,9 @@ places-more bytes ids n next s t q last put more ends above free behind before l
     }
 
 -- the thread of a request of a wait is one of the log
-pub thread-in : (ids : Ids) (waits : List Wait) (q : Request) → HasWait ids waits q → q.thread < length ids.threads.items
-thread-in ids waits q has = slice_get_within ids.threads.items q.thread has.of.thread has.of.has_thread
+pub thread-in : (bytes : List ℕ) (ids : Ids) (waits : List Wait) (q : Request) → HasWait bytes ids waits q →
+    q.thread < length ids.threads.items
+thread-in bytes ids waits q has = slice_get_within ids.threads.items q.thread has.of.thread has.of.has_thread
 
 -- each record from one on is from that one on, and from the next one on if it is of another thread
 pub next-from : (bytes : List ℕ) (r : Record) (t next : ℕ) → IsLog bytes → IsIn bytes r → (t ≡ r.thread → next ≡ r.number) →
@@ -581,7 +582,7 @@ pub places-on : (bytes : List ℕ) (ids : Ids) (r : Record) (s m t : Search) →
     KnowsOpen bytes (r.number + 1) m.asked.items m.found.list.items →
     KnowsEnds bytes (r.number + 1) m.found →
     t.last.items ≡ set m.last.items r.thread (Some r.number) → t.asked ≡ m.asked → t.found ≡ m.found →
-    KnowsPlaces bytes ids r.number s → KnowsPlaces bytes ids (r.number + 1) t
+    KnowsWhere bytes ids r.number s → KnowsWhere bytes ids (r.number + 1) t
 places-on bytes ids r s m t log has last size known ends put asked found knows =
     let old : KnowsLast bytes r.number m.last.items =
     subst (λ v. KnowsLast bytes r.number v.items) (sym last) knows.last in
@@ -599,11 +600,11 @@ places-on bytes ids r s m t log has last size known ends put asked found knows =
 -- a pending request that belongs behind the last record of its thread in a log
 pub last-of-wait : (bytes : List ℕ) (ids : Ids) (waits : List Wait) (n : ℕ) (s : Search) (last : List (Option ℕ))
     (p q : Request) → q.thread ≡ p.thread → q.mutex ≡ p.mutex → q.time ≡ p.time → q.place ≡ p.place →
-    end_of (header_of bytes) ≤ n → HasWait ids waits p × (p.place ≡ None) → last ≡ s.last.items →
-    IfSome (get_or last q.thread None) (λ l. l ≤ q.after) → KnowsPlaces bytes ids n s → IsOfWait bytes ids waits q
+    end_of (header_of bytes) ≤ n → HasWait bytes ids waits p × (p.place ≡ None) → last ≡ s.last.items →
+    IfSome (get_or last q.thread None) (λ l. l ≤ q.after) → KnowsWhere bytes ids n s → IsOfWait bytes ids waits q
 last-of-wait bytes ids waits n s last p q thread mutex time place end is same behind knows =
-    let has : HasWait ids waits q = moved ids waits p q thread mutex time is.0 in
-    let lt : q.thread < length s.last.items = subst (λ k. q.thread < k) (sym knows.last_room) (thread-in ids waits q has) in
+    let has : HasWait bytes ids waits q = moved bytes ids waits p q thread mutex time is.0 in
+    let lt : q.thread < length s.last.items = subst (λ k. q.thread < k) (sym knows.last_room) (thread-in bytes ids waits q has) in
     record {
       has = has;
       place =

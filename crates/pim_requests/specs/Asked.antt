@@ -1,13 +1,16 @@
 -- What shows each request that a log lacks.
 use Rattle.std.specs.Prelude.{◌≡◌, ◌≢◌, ◌⊎◌, ◌<◌, ◌≤◌, ℕ, List, Contains, Option, Some, None}
-use Rattle.std.specs.Prelude.{Bool, true, false, ◌||◌, IsTrue, slice_get}
+use Rattle.std.specs.Prelude.{Bool, true, false, ◌||◌, IfSome, IsTrue, slice_get}
+use Rattle.std.specs.Option.{option_and_then}
 use Rattle.pim_log.specs.Headers.{header_of, end_of}
 use Rattle.pim_log.specs.Logs.{IsNumbered, IsRecord, began_of}
 use Rattle.pim_log.specs.declared.event.Call.TheVariants as call
 use Rattle.pim_log.specs.declared.event.Event.{Event}
 use Rattle.pim_log.specs.declared.event.Event.TheVariants as event
 use Rattle.pim_log.specs.declared.record.Record.{Record}
+use Rattle.pim_facts.specs.Addresses.{Addresses, addresses_of, meant}
 use Rattle.pim_facts.specs.Levels.{id_of}
+use Rattle.pim_facts.specs.Naming.{AreBelow}
 use Rattle.pim_facts.specs.declared.ids.Ids.{Ids}
 use Rattle.pim_facts.specs.declared.ids.LoggedMutex.{LoggedMutex}
 use Rattle.pim_facts.specs.declared.ids.LoggedThread.{LoggedThread}
@@ -112,11 +115,50 @@ pub record IsWaitOf (ids : Ids) (wait : Wait) (t m : ℕ) : Type 0 where
   pub address : mutex.address ≡ wait.address
   pub process : (mutex.process ≡ thread.process) ⊎ (mutex.process ≡ None)
 
+-- the process of a thread of a log, if it has one
+abbrev pub process_of : Ids → ℕ → Option ℕ
+process_of ids t = option_and_then (λ thread. thread.process) (slice_get ids.threads.items t)
+
+-- the mutex that the process of a thread means by an address
+abbrev pub meant_by : Addresses → Ids → ℕ → ℕ → Option ℕ
+meant_by known ids t address = option_and_then (λ process. meant known process address) (process_of ids t)
+
+-- a time is known and after another one
+abbrev pub IsLater : Option ℕ → ℕ → Type 0
+IsLater (Some time) begin = begin < time
+IsLater None begin = ⊥
+
+-- the record of a log with this number was put at this time, if that is known, or the log ends there
+abbrev pub IsPutBy : List ℕ → ℕ → Option ℕ → Type 0
+IsPutBy bytes number time = (number ≡ end_of (header_of bytes))
+    ⊎ ((r : Record) × (IsIn bytes r × ((r.number ≡ number) × (r.time ≡ time))))
+
+-- the record of a log with this number was put after a wait began, or the log ends there
+abbrev pub IsBegunBy : List ℕ → ℕ → Wait → Type 0
+IsBegunBy bytes number wait = (number ≡ end_of (header_of bytes))
+    ⊎ ((r : Record) × (IsIn bytes r × ((r.number ≡ number) × IsLater r.time wait.from)))
+
+-- the records of a log with numbers below one were put up to a time, as far as theirs are known
+abbrev pub ArePutBy : List ℕ → ℕ → ℕ → Type 0
+ArePutBy bytes number time =
+    (r : Record) → IsIn bytes r → r.number < number → IfSome r.time (λ put. put ≤ time)
+
+-- a wait of a thread is for this mutex: the one that the thread's process means by the address, by the records before the
+-- first one that was put after the wait began, or by all if none was
+pub record IsWaitFor (bytes : List ℕ) (ids : Ids) (wait : Wait) (t m : ℕ) : Type 0 where
+  pub number : ℕ
+  pub begun : IsBegunBy bytes number wait
+  pub first : ArePutBy bytes number wait.from
+  pub before : List Record
+  pub are : AreBelow bytes number before
+  pub is : meant_by (addresses_of before) ids t wait.address ≡ Some m
+
 -- one of the waits is that of a request: it is of its thread and for its mutex, and the request begins with it
-pub record HasWait (ids : Ids) (waits : List Wait) (request : Request) : Type 0 where
+pub record HasWait (bytes : List ℕ) (ids : Ids) (waits : List Wait) (request : Request) : Type 0 where
   pub wait : Wait
   pub shown : Contains waits wait
   pub of : IsWaitOf ids wait request.thread request.mutex
+  pub for_mutex : IsWaitFor bytes ids wait request.thread request.mutex
   pub time : request.time ≡ Some wait.from
 
 -- a record is the first one of the thread of a request behind the record behind which the request belongs
@@ -143,7 +185,7 @@ HasPlace bytes request = HasNext bytes request ⊎ (LacksNext bytes request × (
 
 -- a request that one of the waits shows, with the place of its thread's next record
 pub record IsOfWait (bytes : List ℕ) (ids : Ids) (waits : List Wait) (request : Request) : Type 0 where
-  pub has : HasWait ids waits request
+  pub has : HasWait bytes ids waits request
   pub place : HasPlace bytes request
 
 -- a call of the log shows a request, or a wait does

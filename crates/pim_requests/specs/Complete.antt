@@ -1,11 +1,11 @@
 -- Which requests a list has, if it has all of those that the calls of a log show.
-use Rattle.std.specs.Prelude.{◌≡◌, ◌≢◌, ◌⊎◌, ◌<◌, ◌≤◌, ℕ, List, Contains, Option, Some, None}
+use Rattle.std.specs.Prelude.{◌≡◌, ◌≢◌, ◌⊎◌, ◌<◌, ◌≤◌, ℕ, List, Contains, Some}
 use Rattle.pim_log.specs.Logs.{began_of}
 use Rattle.pim_log.specs.declared.record.Record.{Record}
 use Rattle.pim_facts.specs.Levels.{id_of}
 use Rattle.pim_facts.specs.declared.ids.Ids.{Ids}
 use Rattle.pim_course.specs.declared.requests.Request.{Request}
-use Rattle.pim_requests.specs.Asked.{IsGrant, IsIn, IsNextOf, IsOfCall, IsOfWait, LacksRequest, MayHaveWaited}
+use Rattle.pim_requests.specs.Asked.{IsGrant, IsIn, IsLater, IsNextOf, IsOfCall, IsOfWait, LacksRequest, MayHaveWaited}
 use Rattle.pim_requests.specs.declared.waits.Wait.{Wait}
 
 -- by a record of a log a thread is granted a mutex
@@ -13,11 +13,6 @@ pub record IsGrantOf (bytes : List ℕ) (ids : Ids) (m : ℕ) (r : Record) : Typ
   pub has : IsIn bytes r
   pub granted : IsGrant r.event
   pub mutex : id_of ids r.number ≡ Some m
-
--- a time is known and after another one
-abbrev pub IsLater : Option ℕ → ℕ → Type 0
-IsLater (Some time) begin = begin < time
-IsLater None begin = ⊥
 
 -- a record is the first grant of a mutex of those whose time is after this one
 pub record IsFirstAfter (bytes : List ℕ) (ids : Ids) (m time : ℕ) (grant : Record) : Type 0 where

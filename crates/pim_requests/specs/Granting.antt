@@ -7,8 +7,8 @@ use Rattle.pim_log.specs.declared.record.Record.{Record}
 use Rattle.pim_facts.specs.Levels.{id_of}
 use Rattle.pim_facts.specs.declared.ids.Ids.{Ids}
 use Rattle.pim_course.specs.declared.requests.Request.{Request}
-use Rattle.pim_requests.specs.Asked.{HasMovedOn, IsIn, IsNextOf, IsOfWait, is_request}
-use Rattle.pim_requests.specs.Complete.{HasRequestOf, IsGrantOf, IsLater, WaitedSilently}
+use Rattle.pim_requests.specs.Asked.{HasMovedOn, IsIn, IsLater, IsNextOf, IsOfWait, is_request}
+use Rattle.pim_requests.specs.Complete.{HasRequestOf, IsGrantOf, WaitedSilently}
 use Rattle.pim_requests.specs.declared.grants.Grant.{Grant}
 use Rattle.pim_requests.specs.declared.grants.Grants.{Grants}
 use Rattle.pim_requests.specs.declared.waits.Wait.{Wait}

@@ -2,23 +2,33 @@
 use Rattle.std.specs.Prelude.{◌≡◌, ◌⊎◌, ◌<◌, ◌≤◌, ℕ, List, length, All, Contains, Option, Some, None, slice_get}
 use Rattle.std.specs.Prelude.{slice_index_or}
 use Rattle.pim_log.specs.declared.record.Record.{Record}
+use Rattle.pim_facts.specs.Addresses.{KnowsPlaces, addresses_of}
+use Rattle.pim_facts.specs.Naming.{AreBelow}
 use Rattle.pim_facts.specs.declared.ids.Ids.{Ids}
 use Rattle.pim_course.specs.declared.requests.Request.{Request}
-use Rattle.pim_requests.specs.Asked.{HasNext, HasWait, IsIn, IsNextOf}
+use Rattle.pim_requests.specs.Asked.{ArePutBy, HasNext, HasWait, IsIn, IsNextOf}
+use Rattle.pim_requests.specs.declared.names.Names.{Names}
 use Rattle.pim_requests.specs.declared.waits.Asked.{Asked}
 use Rattle.pim_requests.specs.declared.waits.Pending.{Pending}
 use Rattle.pim_requests.specs.declared.waits.Search.{Search}
 use Rattle.pim_requests.specs.declared.waits.Wait.{Wait}
 
 -- one of the waits is that of a request of which it isn't known yet where it belongs, and which has no place so far
-abbrev pub IsPendingOf : Ids → List Wait → Pending → Type 0
-IsPendingOf ids waits pending = HasWait ids waits pending.request × (pending.request.place ≡ None)
+abbrev pub IsPendingOf : List ℕ → Ids → List Wait → Pending → Type 0
+IsPendingOf bytes ids waits pending = HasWait bytes ids waits pending.request × (pending.request.place ≡ None)
 
 -- a search goes through some waits, of which each request that it found or that is pending has one
-abbrev pub AreOfWaits : Ids → List Wait → Search → Type 0
-AreOfWaits ids waits search =
-    All (Contains waits) search.waits.items × (All (IsPendingOf ids waits) search.pending.items
-    × All (HasWait ids waits) search.found.list.items)
+abbrev pub AreOfWaits : List ℕ → Ids → List Wait → Search → Type 0
+AreOfWaits bytes ids waits search =
+    All (Contains waits) search.waits.items × (All (IsPendingOf bytes ids waits) search.pending.items
+    × All (HasWait bytes ids waits) search.found.list.items)
+
+-- what addresses mean is known by the records of a log with numbers below one, and a time up to which these were put
+pub record KnowsNames (bytes : List ℕ) (number : ℕ) (names : Names) : Type 0 where
+  pub before : List Record
+  pub are : AreBelow bytes number before
+  pub knows : KnowsPlaces (addresses_of before) names.places
+  pub latest : ArePutBy bytes number names.latest
 
 -- those records of a thread that are from one number on are from another one on
 abbrev pub IsNextFrom : List ℕ → ℕ → ℕ → ℕ → Type 0
@@ -63,7 +73,7 @@ abbrev pub KnowsEnds : List ℕ → ℕ → Asked → Type 0
 KnowsEnds bytes number found = All (HasEnd bytes number found.list.items) found.ends.items
 
 -- a search that went past the records below a number knows which places its requests have, or will have
-pub record KnowsPlaces (bytes : List ℕ) (ids : Ids) (number : ℕ) (search : Search) : Type 0 where
+pub record KnowsWhere (bytes : List ℕ) (ids : Ids) (number : ℕ) (search : Search) : Type 0 where
   pub last_room : length search.last.items ≡ length ids.threads.items
   pub asked_room : length search.asked.items ≡ length ids.threads.items
   pub last : KnowsLast bytes number search.last.items

@@ -13,16 +13,17 @@ ghost use Rattle.std.specs.Prelude.{◌≡◌, ◌≢◌, ◌+◌, ◌<◌, ◌�
 ghost use Rattle.std.specs.Prelude.{List, None, OnOk, Some, length, slice_get, slice_index_or, slice_set};
 ghost use Rattle.pim_log.specs.Headers.{end_of, header_of};
 ghost use Rattle.pim_log.specs.Logs.{IsLog};
-ghost use Rattle.pim_requests.specs.Asked.{HasWait, IsIn, IsOfWait, IsWaitOf};
+ghost use Rattle.pim_requests.specs.Asked.{HasWait, IsBegunBy, IsIn, IsOfWait, IsPutBy};
 ghost use Rattle.pim_requests.specs.Granting.{HasEnded};
-ghost use Rattle.pim_requests.specs.Searching.{AreOfWaits, IsNextFrom, IsPendingOf, KnowsEnds, KnowsOpen, KnowsPlaces};
+ghost use Rattle.pim_requests.specs.Searching.{AreOfWaits, IsNextFrom, IsPendingOf, KnowsEnds, KnowsNames, KnowsOpen};
+ghost use Rattle.pim_requests.specs.Searching.{KnowsWhere};
 
+use crate::names::Names;
 use pim_course::{Course, Request, Sources, Walk};
 use pim_facts::Ids;
 use pim_facts::lists::{get, set};
 use pim_log::{Event, Log, Record};
 use std::alloc::{AllocError, Global};
-use std::collections::HashMap;
 
 /// A thread waited for a mutex in a call.
 #[derive(Clone, Copy, PartialEq, Eq, PartialOrd, Ord)]
@@ -64,17 +65,6 @@ enum Place {
     Later,
 }
 
-/// What the records so far name.
-#[derive(Drop)]
-struct Names {
-    /// By the kernel's number the thread that has it.
-    threads: HashMap<u32, u32>,
-    /// By process and address the mutex that is there. One that processes share is of no process.
-    mutexes: HashMap<(Option<u32>, u64), u32>,
-    /// How many mutexes were named so far. They have the numbers from 1 on in this order.
-    named: u32,
-}
-
 /// What is known on the way through a log.
 struct Search {
     alloc: Global,
@@ -82,7 +72,6 @@ struct Search {
     waits: Vec<Wait>,
     /// How many of them have begun.
     begun: usize,
-    names: Names,
     /// By thread the number of its last record, if it has one.
     last: Vec<Option<u64>>,
     /// By mutex the number of its last RELEASE, if it has one.
@@ -100,7 +89,6 @@ impl Drop for Search {
             alloc: _,
             waits: _,
             begun: _,
-            names: _,
             last: _,
             released: _,
             pending: _,
@@ -130,8 +118,9 @@ pub fn asked_in(
         return Ok(Asked::none(alloc));
     }
     let mut search = Search::new(alloc, sources, waits)?;
+    let mut names = Names::new(alloc)?;
     let mut walk = Walk::new(alloc, &sources.ids)?;
-    search.follow(&mut walk, log, sources)?;
+    search.follow(&mut names, &mut walk, log, sources)?;
     search.end()
 }
 
@@ -149,8 +138,8 @@ impl Asked {
 
     /// Sets the place in the code of the call of the request at an index.
     fn set_place(&mut self, index: usize, place: Option<u16>)
-        ensures waits { (ids : Ids) (waits : List Wait) → All (HasWait ids waits) self.old.list.items →
-            All (HasWait ids waits) self.new.list.items }
+        ensures waits { (bytes : List ℕ) (ids : Ids) (waits : List Wait) → All (HasWait bytes ids waits) self.old.list.items →
+            All (HasWait bytes ids waits) self.new.list.items }
         ensures ends { self.new.ends ≡ self.old.ends }
         ensures others { (k : ℕ) → k ≢ index → slice_get self.new.list.items k ≡ slice_get self.old.list.items k }
         ensures place { (request : Request) → slice_get self.old.list.items index ≡ Some request →
@@ -165,8 +154,8 @@ impl Asked {
 
 impl Search {
     fn new(alloc: Global, sources: &Sources, waits: &[Wait]) -> Result<Search, AllocError>
-        ensures waits { IfOk result (AreOfWaits sources.now.ids waits.now) }
-        ensures places { (bytes : List ℕ) → IfOk result (KnowsPlaces bytes sources.now.ids 1) }
+        ensures waits { (bytes : List ℕ) → IfOk result (AreOfWaits bytes sources.now.ids waits.now) }
+        ensures places { (bytes : List ℕ) → IfOk result (KnowsWhere bytes sources.now.ids 1) }
     {
         let threads = sources.ids.threads.len();
         let last = vec![in alloc; None; threads]?;
@@ -178,11 +167,6 @@ impl Search {
             alloc,
             waits: sorted,
             begun: 0,
-            names: Names {
-                threads: HashMap::new(alloc),
-                mutexes: HashMap::new(alloc),
-                named: 0,
-            },
             last,
             released,
             pending: Vec::new(alloc),
@@ -192,20 +176,28 @@ impl Search {
     }
 
     /// Goes through a log, from its begin to its end.
-    fn follow(&mut self, walk: &mut Walk, log: &Log, sources: &Sources) -> Result<(), AllocError>
-        ensures waits { (waits : List Wait) → AreOfWaits sources.now.ids waits self.old →
-            OnOk result (AreOfWaits sources.now.ids waits self.new) }
-        ensures places { (waits : List Wait) → IsLog log.now → AreOfWaits sources.now.ids waits self.old →
-            KnowsPlaces log.now sources.now.ids 1 self.old →
-            OnOk result (KnowsPlaces log.now sources.now.ids (end_of (header_of log.now)) self.new) }
+    fn follow(
+        &mut self,
+        names: &mut Names,
+        walk: &mut Walk,
+        log: &Log,
+        sources: &Sources,
+    ) -> Result<(), AllocError>
+        ensures waits { (waits : List Wait) → IsLog log.now → AreOfWaits log.now sources.now.ids waits self.old →
+            KnowsNames log.now 1 names.old → OnOk result (AreOfWaits log.now sources.now.ids waits self.new) }
+        ensures places { (waits : List Wait) → IsLog log.now → AreOfWaits log.now sources.now.ids waits self.old →
+            KnowsNames log.now 1 names.old → KnowsWhere log.now sources.now.ids 1 self.old →
+            OnOk result (KnowsWhere log.now sources.now.ids (end_of (header_of log.now)) self.new) }
     {
         let end = log.header().end();
         for number in 1..end {
             let Some(record) = log.record(number) else {
                 continue;
             };
-            self.begin(sources, &mut walk.course, number, record.time)?;
+            self.begin(names, sources, &mut walk.course, number, record.time)?;
             let _moment = walk.read(log, sources, number);
+            let is_first = get(&self.last, record.thread).is_none();
+            names.read(&record, is_first)?;
             self.pass(sources, walk, &record)?;
         }
         // If the log was full, what happened behind its end isn't known.
@@ -214,34 +206,37 @@ impl Search {
         } else {
             None
         };
-        self.begin(sources, &mut walk.course, end, last)
+        self.begin(names, sources, &mut walk.course, end, last)
     }
 
     /// Lets those waits begin that are earlier than this time, if the record with this number has it.
     fn begin(
         &mut self,
+        names: &mut Names,
         sources: &Sources,
         course: &mut Course,
         number: u64,
         time: Option<u64>,
     ) -> Result<(), AllocError>
-        ensures waits { (waits : List Wait) → AreOfWaits sources.now.ids waits self.old →
-            OnOk result (AreOfWaits sources.now.ids waits self.new) }
-        ensures places { (bytes : List ℕ) → KnowsPlaces bytes sources.now.ids number self.old →
-            OnOk result (KnowsPlaces bytes sources.now.ids number self.new) }
+        ensures waits { (bytes : List ℕ) (waits : List Wait) → IsPutBy bytes number time →
+            AreOfWaits bytes sources.now.ids waits self.old → KnowsNames bytes number names.old →
+            OnOk result (AreOfWaits bytes sources.now.ids waits self.new) }
+        ensures names { (bytes : List ℕ) → KnowsNames bytes number names.old → OnOk result (KnowsNames bytes number names.new) }
+        ensures places { (bytes : List ℕ) → KnowsWhere bytes sources.now.ids number self.old →
+            OnOk result (KnowsWhere bytes sources.now.ids number self.new) }
     {
-        let Some(time) = time else {
+        let Some(until) = time else {
             return Ok(());
         };
         for place in self.begun..self.waits.len() {
             let Some(wait) = self.waits.get(place).copied() else {
                 break;
             };
-            if wait.from >= time {
+            if wait.from >= until {
                 break;
             }
             self.begun = place.saturating_add(1);
-            self.ask(sources, course, &wait, number)?;
+            self.ask(names, sources, course, &wait, number)?;
         }
         Ok(())
     }
@@ -249,17 +244,20 @@ impl Search {
     /// A wait begins before the record with this number. If its thread waits already, the log has the request.
     fn ask(
         &mut self,
+        names: &mut Names,
         sources: &Sources,
         course: &mut Course,
         wait: &Wait,
         number: u64,
     ) -> Result<(), AllocError>
-        ensures waits { (waits : List Wait) → Contains waits wait.now → AreOfWaits sources.now.ids waits self.old →
-            OnOk result (AreOfWaits sources.now.ids waits self.new) }
-        ensures places { (bytes : List ℕ) → KnowsPlaces bytes sources.now.ids number self.old →
-            OnOk result (KnowsPlaces bytes sources.now.ids number self.new) }
+        ensures waits { (bytes : List ℕ) (waits : List Wait) → Contains waits wait.now → IsBegunBy bytes number wait.now →
+            AreOfWaits bytes sources.now.ids waits self.old → KnowsNames bytes number names.old →
+            OnOk result (AreOfWaits bytes sources.now.ids waits self.new) }
+        ensures names { (bytes : List ℕ) → KnowsNames bytes number names.old → OnOk result (KnowsNames bytes number names.new) }
+        ensures places { (bytes : List ℕ) → KnowsWhere bytes sources.now.ids number self.old →
+            OnOk result (KnowsWhere bytes sources.now.ids number self.new) }
     {
-        let Some((thread, mutex)) = self.names.find(&sources.ids, wait) else {
+        let Some((thread, mutex)) = names.find(&sources.ids, wait) else {
             return Ok(());
         };
         let owner = course.mutex(mutex).owner;
@@ -307,11 +305,11 @@ impl Search {
 
     /// Adds a request whose thread's next record has this number or a later one, if the records so far don't contradict it.
     fn add(&mut self, request: Request, next: u64) -> Result<(), AllocError>
-        ensures waits { (ids : Ids) (waits : List Wait) → HasWait ids waits request → AreOfWaits ids waits self.old →
-            OnOk result (AreOfWaits ids waits self.new) }
+        ensures waits { (bytes : List ℕ) (ids : Ids) (waits : List Wait) → HasWait bytes ids waits request →
+            AreOfWaits bytes ids waits self.old → OnOk result (AreOfWaits bytes ids waits self.new) }
         ensures places { (bytes : List ℕ) (ids : Ids) (number : ℕ) → request.thread < length ids.threads.items →
-            request.place ≡ None → IsNextFrom bytes request.thread number next → KnowsPlaces bytes ids number self.old →
-            OnOk result (KnowsPlaces bytes ids number self.new) }
+            request.place ≡ None → IsNextFrom bytes request.thread number next → KnowsWhere bytes ids number self.old →
+            OnOk result (KnowsWhere bytes ids number self.new) }
     {
         // Each request is open, which isn't proved of the search.
         if !self.is_open(&request, next) {
@@ -345,15 +343,13 @@ impl Search {
         walk: &mut Walk,
         record: &Record,
     ) -> Result<(), AllocError>
-        ensures waits { (waits : List Wait) → AreOfWaits sources.now.ids waits self.old →
-            OnOk result (AreOfWaits sources.now.ids waits self.new) }
+        ensures waits { (bytes : List ℕ) (waits : List Wait) → AreOfWaits bytes sources.now.ids waits self.old →
+            OnOk result (AreOfWaits bytes sources.now.ids waits self.new) }
         ensures places { (bytes : List ℕ) (waits : List Wait) → IsLog bytes → IsIn bytes record.now →
-            AreOfWaits sources.now.ids waits self.old → KnowsPlaces bytes sources.now.ids record.now.number self.old →
-            OnOk result (KnowsPlaces bytes sources.now.ids (record.now.number + 1) self.new) }
+            AreOfWaits bytes sources.now.ids waits self.old → KnowsWhere bytes sources.now.ids record.now.number self.old →
+            OnOk result (KnowsWhere bytes sources.now.ids (record.now.number + 1) self.new) }
     {
         let id = sources.ids.of_record(record.number);
-        let is_first = get(&self.last, record.thread).is_none();
-        self.names.learn(&sources.ids, record, id, is_first)?;
         self.settle(sources, &mut walk.course, record, id)?;
         self.end_wait(record)?;
         self.keep_last(record, id);
@@ -376,8 +372,8 @@ impl Search {
 
     /// A record ends the wait of its thread, if one was found since the thread's last record: both are of one call.
     fn end_wait(&mut self, record: &Record) -> Result<(), AllocError>
-        ensures waits { (ids : Ids) (waits : List Wait) → AreOfWaits ids waits self.old →
-            OnOk result (AreOfWaits ids waits self.new) }
+        ensures waits { (bytes : List ℕ) (ids : Ids) (waits : List Wait) → AreOfWaits bytes ids waits self.old →
+            OnOk result (AreOfWaits bytes ids waits self.new) }
         ensures last { self.new.last ≡ self.old.last }
         ensures size { length self.new.asked.items ≡ length self.old.asked.items }
         ensures places { (bytes : List ℕ) → IsLog bytes → IsIn bytes record.now →
@@ -405,11 +401,11 @@ impl Search {
         record: &Record,
         id: Option<u32>,
     ) -> Result<(), AllocError>
-        ensures waits { (waits : List Wait) → AreOfWaits sources.now.ids waits self.old →
-            OnOk result (AreOfWaits sources.now.ids waits self.new) }
+        ensures waits { (bytes : List ℕ) (waits : List Wait) → AreOfWaits bytes sources.now.ids waits self.old →
+            OnOk result (AreOfWaits bytes sources.now.ids waits self.new) }
         ensures places { (bytes : List ℕ) (waits : List Wait) → IsLog bytes → IsIn bytes record.now →
-            AreOfWaits sources.now.ids waits self.old → KnowsPlaces bytes sources.now.ids record.now.number self.old →
-            OnOk result (KnowsPlaces bytes sources.now.ids record.now.number self.new) }
+            AreOfWaits bytes sources.now.ids waits self.old → KnowsWhere bytes sources.now.ids record.now.number self.old →
+            OnOk result (KnowsWhere bytes sources.now.ids record.now.number self.new) }
     {
         if self.pending.is_empty() {
             return Ok(());
@@ -430,11 +426,11 @@ impl Search {
         id: Option<u32>,
         one: &Pending,
     ) -> Result<(), AllocError>
-        ensures waits { (waits : List Wait) → IsPendingOf sources.now.ids waits one.now →
-            AreOfWaits sources.now.ids waits self.old → OnOk result (AreOfWaits sources.now.ids waits self.new) }
+        ensures waits { (bytes : List ℕ) (waits : List Wait) → IsPendingOf bytes sources.now.ids waits one.now →
+            AreOfWaits bytes sources.now.ids waits self.old → OnOk result (AreOfWaits bytes sources.now.ids waits self.new) }
         ensures places { (bytes : List ℕ) (waits : List Wait) → IsLog bytes → IsIn bytes record.now →
-            IsPendingOf sources.now.ids waits one.now → KnowsPlaces bytes sources.now.ids record.now.number self.old →
-            OnOk result (KnowsPlaces bytes sources.now.ids record.now.number self.new) }
+            IsPendingOf bytes sources.now.ids waits one.now → KnowsWhere bytes sources.now.ids record.now.number self.old →
+            OnOk result (KnowsWhere bytes sources.now.ids record.now.number self.new) }
     {
         let request = one.request;
         match one.place(record, id) {
@@ -458,10 +454,10 @@ impl Search {
     /// Adds the requests of the waits that last at the end, and returns all.
     fn end(mut self) -> Result<Asked, AllocError>
         ensures shown { (bytes : List ℕ) (ids : Ids) (waits : List Wait) (number : ℕ) →
-            end_of (header_of bytes) ≤ number → AreOfWaits ids waits self → KnowsPlaces bytes ids number self →
+            end_of (header_of bytes) ≤ number → AreOfWaits bytes ids waits self → KnowsWhere bytes ids number self →
             IfOk result (λ asked. All (IsOfWait bytes ids waits) asked.list.items) }
         ensures ends { (bytes : List ℕ) (ids : Ids) (waits : List Wait) (number : ℕ) →
-            end_of (header_of bytes) ≤ number → AreOfWaits ids waits self → KnowsPlaces bytes ids number self →
+            end_of (header_of bytes) ≤ number → AreOfWaits bytes ids waits self → KnowsWhere bytes ids number self →
             IfOk result (λ asked. All (HasEnded bytes ids waits asked.list.items) asked.ends.items) }
     {
         let mut found = std::mem::replace(&mut self.found, Asked::none(self.alloc));
@@ -480,54 +476,6 @@ impl Search {
             found.list.push(request)?;
         }
         Ok(found)
-    }
-}
-
-impl Names {
-    /// Returns the thread of a wait and the mutex that it is for, if the records so far name them.
-    fn find(&self, ids: &Ids, wait: &Wait) -> Option<(u32, u32)>
-        ensures { IfSome result (λ found. IsWaitOf ids.now wait.now found.0 found.1) }
-    {
-        let thread = *self.threads.get(&wait.task)?;
-        let process = ids.threads.get(thread as usize)?.process;
-        let mutex = match self.mutexes.get(&(process, wait.address)) {
-            Some(own) => own,
-            None => self.mutexes.get(&(None, wait.address))?,
-        };
-        // The maps have only those that a wait is of, which isn't proved of them.
-        if is_of(wait, ids, thread, *mutex) {
-            Some((thread, *mutex))
-        } else {
-            None
-        }
-    }
-
-    /// Learns who has the number of a thread, if this is its first record, and which mutex is at an address.
-    fn learn(
-        &mut self,
-        ids: &Ids,
-        record: &Record,
-        id: Option<u32>,
-        is_first: bool,
-    ) -> Result<(), AllocError> {
-        if is_first {
-            self.threads.insert(record.task, record.thread)?;
-        }
-        let Some(mutex) = id else {
-            return Ok(());
-        };
-        if record.event.mutex().is_none() || mutex <= self.named {
-            return Ok(());
-        }
-        self.named = mutex;
-        let Some(is) = ids.mutex(mutex) else {
-            return Ok(());
-        };
-        if is.process.is_none() {
-            let _before = self.mutexes.remove(&(Some(record.process), is.address));
-        }
-        self.mutexes.insert((is.process, is.address), mutex)?;
-        Ok(())
     }
 }
 
@@ -581,20 +529,4 @@ fn next_of(thread: u32, record: &Record) -> u64
     } else {
         record.number.saturating_add(1)
     }
-}
-
-/// Returns whether a wait is of this thread and for this mutex.
-fn is_of(wait: &Wait, ids: &Ids, thread: u32, mutex: u32) -> bool
-    ensures { IsTrue result → IsWaitOf ids.now wait.now thread mutex }
-{
-    let (Some(of), Some(at)) = (
-        ids.threads.get(thread as usize),
-        ids.mutexes.get(mutex as usize),
-    ) else {
-        return false;
-    };
-    if thread == 0 || mutex == 0 || of.task != Some(wait.task) || at.address != wait.address {
-        return false;
-    }
-    at.process == of.process || at.process.is_none()
 }

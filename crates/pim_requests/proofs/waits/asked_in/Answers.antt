@@ -7,15 +7,17 @@ returns-clause-shown c = λ log.
     let bytes = c.args.log.now in
     let ids = c.args.sources.now.ids in
     let waits = c.args.waits.now in
-    let are = c.in_ok-search.ensures.waits in
-    c.end.ensures.shown bytes ids waits (end_of (header_of bytes)) (omega arith) (c.in_ok-follow.ensures.waits waits are)
-    (c.in_ok-follow.ensures.places waits log are (c.in_ok-search.ensures.places bytes))
+    let are = c.in_ok-search.ensures.waits bytes in
+    let names = c.in_ok-names.ensures bytes in
+    c.end.ensures.shown bytes ids waits (end_of (header_of bytes)) (omega arith) (c.in_ok-follow.ensures.waits waits log are names)
+    (c.in_ok-follow.ensures.places waits log are names (c.in_ok-search.ensures.places bytes))
 
 pub returns-clause-ends : goal.returns-clause-ends
 returns-clause-ends c = λ log.
     let bytes = c.args.log.now in
     let ids = c.args.sources.now.ids in
     let waits = c.args.waits.now in
-    let are = c.in_ok-search.ensures.waits in
-    c.end.ensures.ends bytes ids waits (end_of (header_of bytes)) (omega arith) (c.in_ok-follow.ensures.waits waits are)
-    (c.in_ok-follow.ensures.places waits log are (c.in_ok-search.ensures.places bytes))
+    let are = c.in_ok-search.ensures.waits bytes in
+    let names = c.in_ok-names.ensures bytes in
+    c.end.ensures.ends bytes ids waits (end_of (header_of bytes)) (omega arith) (c.in_ok-follow.ensures.waits waits log are names)
+    (c.in_ok-follow.ensures.places waits log are names (c.in_ok-search.ensures.places bytes))

@@ -26,7 +26,7 @@ loop-one-preserved c = record {
       All-same (IsOfWait bytes ids waits) _ _ c.in_ok-push.ensures.items
       (All-push (IsOfWait bytes ids waits) _ _ (c.loop-one.invariant.shown bytes ids waits number end are knows)
       (last-of-wait bytes ids waits number c.args.self c.deref.result.now _ _ refl refl refl refl end
-      (pending-in ids waits c.args.self _ _ _ c.deref-one-items.ensures.value c.loop-one-test.true are)
+      (pending-in bytes ids waits c.args.self _ _ _ c.deref-one-items.ensures.value c.loop-one-test.true are)
       c.deref.ensures.value (c.if-not-is_behind.ensures refl) knows));
   ends = λ bytes ids waits number end are knows.
       still-ended bytes ids waits c.loop-one.found.list.items _ _

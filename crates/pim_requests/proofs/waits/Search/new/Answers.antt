@@ -8,14 +8,14 @@ use Rattle.pim_requests.proofs.Placing.{places-first}
 use Rattle.pim_requests.proofs.waits.Search.new.Goals as goal
 
 pub returns-clause-waits : goal.returns-clause-waits
-returns-clause-waits c =
+returns-clause-waits c = λ bytes.
     let ids = c.args.sources.now.ids in
     let waits = c.args.waits.now in (
       All-permutation (Contains waits) _ _ c.sort_unstable.ensures.permutation
           (All-same (Contains waits) _ _ c.in_ok-sorted.ensures.items (All-contains_itself waits)),
       (
-        All-same (IsPendingOf ids waits) _ _ c.new-3.ensures.items (All-nil (IsPendingOf ids waits)),
-        All-same (HasWait ids waits) _ _ c.none.ensures.list (All-nil (HasWait ids waits)),
+        All-same (IsPendingOf bytes ids waits) _ _ c.new.ensures.items (All-nil (IsPendingOf bytes ids waits)),
+        All-same (HasWait bytes ids waits) _ _ c.none.ensures.list (All-nil (HasWait bytes ids waits)),
       ),
     )
 

@@ -4,12 +4,12 @@ use Rattle.pim_requests.proofs.Searched.{kept}
 use Rattle.pim_requests.proofs.waits.Search.pass.Goals as goal
 
 pub returns-clause-waits : goal.returns-clause-waits
-returns-clause-waits c = λ waits are.
+returns-clause-waits c = λ bytes waits are.
     let ids = c.args.sources.now.ids in
-    kept ids waits c.end_wait.new.self c.keep_last.new.self c.keep_last.ensures.waits c.keep_last.ensures.pending
+    kept bytes ids waits c.end_wait.new.self c.keep_last.new.self c.keep_last.ensures.waits c.keep_last.ensures.pending
     c.keep_last.ensures.found
-    (c.in_ok-end_wait.ensures.waits ids waits
-    (c.in_ok-settle.ensures.waits waits are))
+    (c.in_ok-end_wait.ensures.waits bytes ids waits
+    (c.in_ok-settle.ensures.waits bytes waits are))
 
 pub returns-clause-places : goal.returns-clause-places
 returns-clause-places c = λ bytes waits log has are knows.

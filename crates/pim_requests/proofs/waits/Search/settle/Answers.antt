@@ -9,11 +9,11 @@ pub loop-one-init : goal.loop-one-init
 loop-one-init c =
     let ids = c.args.sources.now.ids in
     record {
-      waits = λ waits are. (
+      waits = λ bytes waits are. (
         are.0,
         (
-          All-same (IsPendingOf ids waits) _ _ (ap (λ v. v.items) c.replace-pending.ensures.after ∙ c.new.ensures.items)
-              (All-nil (IsPendingOf ids waits)),
+          All-same (IsPendingOf bytes ids waits) _ _ (ap (λ v. v.items) c.replace-pending.ensures.after ∙ c.new.ensures.items)
+              (All-nil (IsPendingOf bytes ids waits)),
           are.1.1,
         ),
       );
@@ -25,13 +25,13 @@ pub loop-one-preserved : goal.loop-one-preserved
 loop-one-preserved c =
     let ids = c.args.sources.now.ids in
     record {
-      waits = λ waits are. c.in_ok-settle_one.ensures.waits waits
-          (pending-in ids waits c.args.self.now _ _ _
+      waits = λ bytes waits are. c.in_ok-settle_one.ensures.waits bytes waits
+          (pending-in bytes ids waits c.args.self.now _ _ _
           (c.deref-one-items.ensures.value ∙ ap (λ v. v.items) c.replace-pending.ensures.value) c.loop-one-test.true are)
-          (c.loop-one.invariant.waits waits are);
+          (c.loop-one.invariant.waits bytes waits are);
       places = λ bytes waits log has are knows.
           c.in_ok-settle_one.ensures.places bytes waits log has
-          (pending-in ids waits c.args.self.now _ _ _
+          (pending-in bytes ids waits c.args.self.now _ _ _
           (c.deref-one-items.ensures.value ∙ ap (λ v. v.items) c.replace-pending.ensures.value) c.loop-one-test.true are)
           (c.loop-one.invariant.places bytes waits log has are knows);
     }

@@ -1,7 +1,7 @@
 use Rattle.std.proofs.Common.{arith, inl, inr, rules}
 use Rattle.std.proofs.lemmas.Grind.{common_steps}
 use Rattle.std.proofs.lemmas.Option.{gets}
-use Rattle.pim_requests.proofs.waits.is_of.Goals as goal
+use Rattle.pim_requests.proofs.names.is_of.Goals as goal
 
 pub returns-then-eq : goal.returns-then-eq
 returns-then-eq c = λ is. record {

@@ -1,0 +1,126 @@
+//! Which threads and mutexes the records so far name.
+ghost use Rattle.std.specs.Prelude.{◌≡◌, ◌+◌, ℕ, IfOk, IfSome, IsTrue, List};
+ghost use Rattle.pim_log.specs.Logs.{IsLog};
+ghost use Rattle.pim_facts.specs.Addresses.{Addresses, KnowsPlaces, after_record};
+ghost use Rattle.pim_requests.specs.Asked.{IsBegunBy, IsIn, IsWaitFor, IsWaitOf, process_of};
+ghost use Rattle.pim_requests.specs.Searching.{KnowsNames};
+
+use crate::waits::Wait;
+use pim_facts::{Ids, Places};
+use pim_log::Record;
+use std::alloc::{AllocError, Global};
+use std::collections::HashMap;
+
+/// Which threads and mutexes the records so far name.
+#[derive(Drop)]
+pub(crate) struct Names {
+    /// By the kernel's number the last thread whose first record has it.
+    threads: HashMap<u32, u32>,
+    places: Places,
+    /// The latest time of the records so far.
+    latest: u64,
+}
+
+impl Names {
+    /// Makes names without a thread or a mutex.
+    ///
+    /// # Errors
+    ///
+    /// Returns `AllocError` if out of memory.
+    pub fn new(alloc: Global) -> Result<Names, AllocError>
+        ensures { (bytes : List ℕ) → IfOk result (KnowsNames bytes 1) }
+    {
+        Ok(Names {
+            threads: HashMap::new(alloc),
+            places: Places::new(alloc)?,
+            latest: 0,
+        })
+    }
+
+    /// Returns the thread of a wait and the mutex that it is for, if the records so far name them.
+    pub fn find(&mut self, ids: &Ids, wait: &Wait) -> Option<(u32, u32)>
+        ensures is { IfSome result (λ found. IsWaitOf ids.now wait.now found.0 found.1) }
+        ensures meant { (bytes : List ℕ) (number : ℕ) → IsBegunBy bytes number wait.now → KnowsNames bytes number self.old →
+            IfSome result (λ found. IsWaitFor bytes ids.now wait.now found.0 found.1) }
+        ensures names { (bytes : List ℕ) (number : ℕ) → KnowsNames bytes number self.old → KnowsNames bytes number self.new }
+    {
+        // No wait began before a record so far was put, which isn't proved of the search.
+        if wait.from < self.latest {
+            return None;
+        }
+        let thread = *self.threads.get(&wait.task)?;
+        let process = process_of(ids, thread)?;
+        let mutex = self.places.mutex(process, wait.address)?;
+        // The wait is of the thread, which isn't proved of the map, and the mutex is at the address by these ids.
+        if is_of(wait, ids, thread, mutex) {
+            Some((thread, mutex))
+        } else {
+            None
+        }
+    }
+
+    /// Reads the next record. If it is the first one of its thread, this has its task from now on.
+    ///
+    /// # Errors
+    ///
+    /// Returns `AllocError` if out of memory.
+    pub fn read(&mut self, record: &Record, is_first: bool) -> Result<(), AllocError>
+        ensures { (bytes : List ℕ) → IsLog bytes → IsIn bytes record.now → KnowsNames bytes record.now.number self.old →
+            IfOk result (λ _. KnowsNames bytes (record.now.number + 1) self.new) }
+    {
+        self.begin_thread(record, is_first)?;
+        self.read_mutex(record)?;
+        self.latest = self.latest.max(record.time.unwrap_or(0));
+        Ok(())
+    }
+
+    /// Keeps the task of a thread, if this is its first record.
+    fn begin_thread(&mut self, record: &Record, is_first: bool) -> Result<(), AllocError>
+        ensures places { self.new.places ≡ self.old.places }
+        ensures latest { self.new.latest ≡ self.old.latest }
+    {
+        if is_first {
+            self.threads.insert(record.task, record.thread)?;
+        }
+        Ok(())
+    }
+
+    /// Keeps which mutex is at the address of a record, if it is of one.
+    fn read_mutex(&mut self, record: &Record) -> Result<(), AllocError>
+        ensures places { (known : Addresses) → KnowsPlaces known self.old.places →
+            IfOk result (λ _. KnowsPlaces (after_record record.now known) self.new.places) }
+        ensures latest { self.new.latest ≡ self.old.latest }
+    {
+        let Some(mutex) = record.event.mutex() else {
+            return Ok(());
+        };
+        self.places.read(record, &mutex)?;
+        Ok(())
+    }
+}
+
+/// Returns the process of a thread, if it has one.
+fn process_of(ids: &Ids, thread: u32) -> Option<u32>
+    ensures { result ≡ process_of ids.now thread }
+{
+    match ids.threads.get(thread as usize) {
+        Some(is) => is.process,
+        None => None,
+    }
+}
+
+/// Returns whether a wait is of this thread and for this mutex.
+fn is_of(wait: &Wait, ids: &Ids, thread: u32, mutex: u32) -> bool
+    ensures { IsTrue result → IsWaitOf ids.now wait.now thread mutex }
+{
+    let (Some(of), Some(at)) = (
+        ids.threads.get(thread as usize),
+        ids.mutexes.get(mutex as usize),
+    ) else {
+        return false;
+    };
+    if thread == 0 || mutex == 0 || of.task != Some(wait.task) || at.address != wait.address {
+        return false;
+    }
+    at.process == of.process || at.process.is_none()
+}
