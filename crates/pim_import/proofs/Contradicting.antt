@@ -26,6 +26,7 @@ use Rattle.pim_import.specs.Contradicting.{CannotGoOn, ContradictsAt}
 use Rattle.pim_import.specs.Following.{HasAdded, HasFollowed, IsLacking, IsOfThread, IsSpared, Knows}
 use Rattle.pim_import.specs.Following.{facts_of, stage_of}
 use Rattle.pim_import.specs.declared.critical_sections.CriticalSections.{CriticalSections}
+use Rattle.pim_import.specs.declared.tally.Tally.{Tally}
 use Rattle.pim_import.proofs.Going.{Adds, goes-by-record, goes-by-request}
 
 -- a fault with the number of a record is a contradiction
@@ -65,12 +66,12 @@ Fails context n k sections course time found builder =
     CannotGoOn context n k sections course time facts
 
 -- the way stops at the next record
-pub contradicts-record : (bytes : List ℕ) (context : Context) (sections : CriticalSections) (n k number last time : ℕ)
-    (put_at : Option ℕ) (old new : Walk) (found : Findings) (builder : BuilderState) → 1 ≤ number →
+pub contradicts-record : {tally : Tally} (bytes : List ℕ) (context : Context) (sections : CriticalSections)
+    (n k number last time : ℕ) (put_at : Option ℕ) (old new : Walk) (found : Findings) (builder : BuilderState) → 1 ≤ number →
     time ≡ unwrap_or put_at last → IsTimeOf bytes number put_at → new.added ≡ old.added → HasSameSize old.course new.course →
     IsLacking bytes number old.course new.course ⊎ GoesBy bytes context.sources.now number old.course new.course →
     Fails context n k sections new.course time found builder →
-    HasAdded bytes context sections n k (number - 1) last old found builder →
+    HasAdded bytes context sections n k (number - 1) last old found builder tally →
     ContradictsAt bytes context sections n k number
 contradicts-record bytes context sections n k number last time put_at old new found builder
     above is_time is_put_at added size shown fails has =
@@ -92,13 +93,15 @@ contradicts-record bytes context sections n k number last time put_at old new fo
     }
 
 -- the way stops at the next request
-pub contradicts-request : (bytes : List ℕ) (context : Context) (sections : CriticalSections) (n k number last time : ℕ)
-    (put_at : Option ℕ) (request : Request) (old new : Walk) (found : Findings) (builder : BuilderState) →
+pub contradicts-request : {tally : Tally} (bytes : List ℕ) (context : Context) (sections : CriticalSections)
+    (n k number last time : ℕ) (put_at : Option ℕ) (request : Request) (old new : Walk) (found : Findings)
+    (builder : BuilderState) →
     slice_get context.sources.now.requests.list.items old.added ≡ Some request → IsBehind number request →
     put_at ≡ option_map_or (λ one. one.time) (slice_get context.sources.now.requests.list.items old.added) None →
     time ≡ unwrap_or put_at last → Adds context.sources.now old new →
     Fails context n k sections new.course time found builder →
-    HasFollowed bytes context sections n k number last old found builder → ContradictsAt bytes context sections n k number
+    HasFollowed bytes context sections n k number last old found builder tally →
+    ContradictsAt bytes context sections n k number
 contradicts-request bytes context sections n k number last time put_at request old new found builder
     next behind put is_time adds fails f =
     let its : Option ℕ = request.time in

@@ -1,7 +1,7 @@
 -- What is known of the findings on the way through a log.
 use Rattle.std.proofs.Common.{◌≡◌, ◌⊎◌, ℕ, ◌+◌, ◌-◌, ◌<◌, ◌≤◌, ◌||◌, ◌∙◌, Bool, true, false, cond, List, [], ◌∷◌, ◌++◌}
 use Rattle.std.proofs.Common.{length, get_or, take, map, reverse, slice_get, ap, sym, subst, refl, inl, inr, Option}
-use Rattle.std.proofs.Common.{Some, None, Result, Ok, Err}
+use Rattle.std.proofs.Common.{Some, None, Result, Ok, Err, arith}
 use Rattle.std.proofs.lemmas.Bool.{lt-ltb}
 use Rattle.std.proofs.lemmas.List.{map-append, reverse-append, take_more}
 use Rattle.std.proofs.lemmas.List.Elements.{All-cons, All-nil}
@@ -9,6 +9,7 @@ use Rattle.std.specs.Option.{option_map_or, unwrap_or}
 use Rattle.std.specs.Prelude.{IfOk, IfSome, slice_index_or}
 use Rattle.pim_course.specs.Going.{HasSameSize}
 use Rattle.pim_course.specs.Reading.{Begins, GoesBy, IsTimeOf}
+use Rattle.pim_course.specs.Reasons.{IsReasonOf}
 use Rattle.pim_course.specs.Requests.{IsBehind}
 use Rattle.pim_course.specs.declared.course.Course.{Course}
 use Rattle.pim_course.specs.declared.course.Sources.{Sources}
@@ -16,6 +17,7 @@ use Rattle.pim_course.specs.declared.requests.Request.{Request}
 use Rattle.pim_course.specs.declared.walk.Walk.{Walk}
 use Rattle.pim_facts.specs.Shown.{shown_in}
 use Rattle.pim_facts.specs.declared.fact.Fact.{Fact}
+use Rattle.pim_facts.specs.declared.fact.LeftOut.{LeftOut}
 use Rattle.pim_facts.specs.declared.ids.Ids.{Ids}
 use Rattle.pim_findings.proofs.Following.{finds-kept}
 use Rattle.pim_findings.proofs.Handing.{handed-kept}
@@ -35,12 +37,15 @@ use Rattle.pim_findings.specs.declared.findings.Findings.{Findings}
 use Rattle.pim_import.proofs.Adding.{all-added}
 use Rattle.pim_import.proofs.Going.{Adds, goes-by-record, goes-by-request}
 use Rattle.pim_import.specs.Following.{Agrees, ArePlaced, FollowsLog, HasAdded, HasFollowed, IsLacking, IsOfThread, IsSpared}
+use Rattle.pim_import.specs.Following.{IsUsed}
 use Rattle.pim_builder.specs.Shown.{AreShown, AreShownIn, Dated}
 use Rattle.pim_builder.specs.declared.builder.Context.{Context}
 use Rattle.pim_builder.specs.Views.{BuilderState}
 use Rattle.pim_import.specs.Following.{Knows, Stage, facts_of, is_kept, kept_of, moment_of, moments_of, stage_of, dated}
 use Rattle.pim_import.specs.LeftOut.{IsKept, Keeps}
+use Rattle.pim_import.specs.Tallies.{no_tally, one_counted}
 use Rattle.pim_import.specs.declared.critical_sections.CriticalSections.{CriticalSections}
+use Rattle.pim_import.specs.declared.tally.Tally.{Tally}
 
 either : (a b : Bool) → (a ≡ true) ⊎ (b ≡ true) → (a || b) ≡ true
 either true b any = refl
@@ -182,9 +187,10 @@ moments-more sources course time facts i d lt =
 
 -- a walk that begins went through nothing
 pub follows-begin : (bytes : List ℕ) (context : Context) (sections : CriticalSections) (n k : ℕ) (walk : Walk)
-    (found : Findings) (builder : BuilderState) → Begins context.sources.now.ids walk.course → walk.added ≡ 0 →
-    Knows context n k sections [] found builder → HasFollowed bytes context sections n k 0 0 walk found builder
-follows-begin bytes context sections n k walk found builder begins none knows =
+    (found : Findings) (builder : BuilderState) (tally : Tally) → Begins context.sources.now.ids walk.course →
+    walk.added ≡ 0 → Knows context n k sections [] found builder → tally ≡ no_tally →
+    HasFollowed bytes context sections n k 0 0 walk found builder tally
+follows-begin bytes context sections n k walk found builder tally begins none knows nothing =
     record {
       time = 0;
       before = [];
@@ -195,21 +201,25 @@ follows-begin bytes context sections n k walk found builder begins none knows =
           subst (λ shown. Knows context n k sections (moments_of context.sources.now walk.course 0 shown ++ []) found
           builder)
           (sym begins.shown) knows;
+      tallied = nothing;
     }
 
--- one more record
-pub follows-record : (bytes : List ℕ) (context : Context) (sections : CriticalSections) (n k number last time : ℕ)
-    (put_at : Option ℕ) (old new : Walk) (found looked : Findings) (before after : BuilderState) → 1 ≤ number →
+-- one more record, which is counted
+pub follows-record : (is_used : Bool) (reason : LeftOut) (earlier tally : Tally) (bytes : List ℕ) (context : Context)
+    (sections : CriticalSections) (n k number last time : ℕ) (put_at : Option ℕ) (old new : Walk) (found looked : Findings)
+    (before after : BuilderState) → 1 ≤ number →
     time ≡ unwrap_or put_at last → IsTimeOf bytes number put_at → new.added ≡ old.added → HasSameSize old.course new.course →
     IsLacking bytes number old.course new.course ⊎ GoesBy bytes context.sources.now number old.course new.course →
     new.course.is_contradiction ≡ false →
     ((facts : List Moment) → Knows context n k sections facts found before →
     Knows context n k sections (moments_of context.sources.now new.course time (shown_in new.course.shown) ++ facts)
     looked after) →
-    HasAdded bytes context sections n k (number - 1) last old found before →
-    HasFollowed bytes context sections n k number time new looked after
-follows-record bytes context sections n k number last time put_at old new found looked before after
-    above is_time is_put_at added size shown agrees step has =
+    IsUsed sections (shown_in new.course.shown) is_used →
+    IsReasonOf bytes context.sources.now number old.course reason → tally ≡ one_counted is_used reason earlier →
+    HasAdded bytes context sections n k (number - 1) last old found before earlier →
+    HasFollowed bytes context sections n k number time new looked after tally
+follows-record is_used reason earlier tally bytes context sections n k number last time put_at old new found looked before
+    after above is_time is_put_at added size shown agrees step usage otherwise counted has =
     let f = has.followed in
     record {
       time = time;
@@ -222,20 +232,33 @@ follows-record bytes context sections n k number last time put_at old new found 
       agree = All-cons Agrees (stage_of number time time new) (stage_of (number - 1) last f.time old ∷ f.before) agrees
           f.agree;
       knows = step (facts_of context.sources.now (stage_of (number - 1) last f.time old ∷ f.before)) f.knows;
+      tallied = (
+        earlier,
+        inr (record {
+          number = omega (arith, above);
+          is_used = is_used;
+          reason = reason;
+          usage = usage;
+          otherwise = otherwise;
+          counted = counted;
+        }),
+        f.tallied,
+      );
     }
 
 -- one more request, which is the next one
-pub follows-request : (bytes : List ℕ) (context : Context) (sections : CriticalSections) (n k number last time : ℕ)
-    (put_at : Option ℕ) (request : Request) (old new : Walk) (found looked : Findings) (before after : BuilderState) →
+pub follows-request : {tally : Tally} (bytes : List ℕ) (context : Context) (sections : CriticalSections)
+    (n k number last time : ℕ) (put_at : Option ℕ) (request : Request) (old new : Walk) (found looked : Findings)
+    (before after : BuilderState) →
     slice_get context.sources.now.requests.list.items old.added ≡ Some request → IsBehind number request →
     put_at ≡ option_map_or (λ one. one.time) (slice_get context.sources.now.requests.list.items old.added) None →
     time ≡ unwrap_or put_at last → Adds context.sources.now old new → new.course.is_contradiction ≡ false →
     ((facts : List Moment) → Knows context n k sections facts found before →
     Knows context n k sections (moments_of context.sources.now new.course time (shown_in new.course.shown) ++ facts)
     looked after) →
-    HasFollowed bytes context sections n k number last old found before →
-    HasFollowed bytes context sections n k number last new looked after
-follows-request bytes context sections n k number last time put_at request old new found looked before after
+    HasFollowed bytes context sections n k number last old found before tally →
+    HasFollowed bytes context sections n k number last new looked after tally
+follows-request {tally} bytes context sections n k number last time put_at request old new found looked before after
     next behind put is_time adds agrees step f =
     let its : Option ℕ = request.time in
     let is_put : put_at ≡ its =
@@ -250,6 +273,7 @@ follows-request bytes context sections n k number last time put_at request old n
       );
       agree = All-cons Agrees (stage_of number last time new) (stage_of number last f.time old ∷ f.before) agrees f.agree;
       knows = step (facts_of context.sources.now (stage_of number last f.time old ∷ f.before)) f.knows;
+      tallied = (tally, inl (refl, refl), f.tallied);
     }
 
 -- the log ends
@@ -267,7 +291,8 @@ pub follows-log : (bytes : List ℕ) (context : Context) (sections : CriticalSec
     AreCycles (blocker_of walk.course) (threads_of built.findings.deadlocks.items) →
     ((facts : List Dated) → AreShown context facts builder →
     AreShownIn context facts built.pieces.items built.appearances.items) →
-    HasAdded bytes context sections n k (end - 1) last walk found builder → FollowsLog bytes context sections n k built
+    HasAdded bytes context sections n k (end - 1) last walk found builder built.tally →
+    FollowsLog bytes context sections n k built
 follows-log bytes context sections n k end last walk found builder built is placed waits same course hands opposites bounds
     deadlocks trace has =
     let f = has.followed in
@@ -292,4 +317,5 @@ follows-log bytes context sections n k end last walk found builder built is plac
       };
       trace = trace (dated (kept_of sections facts)) f.knows.trace;
       course = course;
+      tally = f.tallied;
     }

@@ -1,6 +1,7 @@
 -- The way through a log, and what is found of the facts that it shows.
 use Rattle.std.specs.Prelude.{◌≡◌, ◌⊎◌, ◌+◌, ◌-◌, ◌<◌, ◌≤◌, ℕ, ◌||◌, Bool, true, false, List, [], ◌∷◌, ◌++◌, map}
 use Rattle.std.specs.Prelude.{reverse, filter, length, slice_get, slice_index_or, Option, Some, All}
+use Rattle.std.specs.List.{list_any}
 use Rattle.std.specs.Option.{option_map_or, unwrap_or}
 use Rattle.pim_log.specs.Headers.{header_of, end_of}
 use Rattle.pim_facts.specs.Covering.{Covers, HasFewThreads}
@@ -13,10 +14,12 @@ use Rattle.pim_facts.specs.Meaning.{MeansThreads}
 use Rattle.pim_facts.specs.Placing.{FindsByAddress}
 use Rattle.pim_facts.specs.Shown.{shown_in}
 use Rattle.pim_facts.specs.declared.fact.Fact.{Fact}
+use Rattle.pim_facts.specs.declared.fact.LeftOut.{LeftOut}
 use Rattle.pim_facts.specs.declared.ids.Ids.{Ids}
 use Rattle.pim_course.specs.Going.{HasSameSize, KeepsDepths, KeepsSections, KeepsDetails}
 use Rattle.pim_course.specs.Details.{added_details, details_of}
 use Rattle.pim_course.specs.Reading.{Begins, GoesBy, HasRequest, IsTimeOf, LacksRecord}
+use Rattle.pim_course.specs.Reasons.{IsReasonOf}
 use Rattle.pim_course.specs.Requests.{IsBehind, IsInOrder}
 use Rattle.pim_course.specs.AskedOwners.{FindsAskedFrom}
 use Rattle.pim_course.specs.NextOwners.{FindsFrom}
@@ -41,13 +44,16 @@ use Rattle.pim_findings.specs.Orders.{FindsOpposites, KnowsOrders}
 use Rattle.pim_findings.specs.Ownerships.{Owns, mutex_at}
 use Rattle.pim_findings.specs.Waits.{Moment, all_waits}
 use Rattle.pim_findings.specs.declared.findings.Findings.{Findings}
+use Rattle.pim_builder.specs.Showing.{IsSetting}
 use Rattle.pim_builder.specs.Shown.{AreShown, AreShownIn, Dated}
 use Rattle.pim_builder.specs.declared.builder.Context.{Context}
 use Rattle.pim_builder.specs.Views.{BuilderState}
 use Rattle.pim_import.specs.KeptSections.{KeepsThoseOf, room_of}
 use Rattle.pim_import.specs.LeftOut.{IsKept, MayBeLeftOut}
+use Rattle.pim_import.specs.Tallies.{no_tally, one_counted}
 use Rattle.pim_import.specs.declared.critical_sections.CriticalSections.{CriticalSections}
 use Rattle.pim_import.specs.declared.importing.Built.{Built}
+use Rattle.pim_import.specs.declared.tally.Tally.{Tally}
 
 -- How far a way through a log has come: the number of the last record, the time of the last one that has a time, how many
 -- requests that the log lacks were added, the time of what the way went by last, and the course behind that.
@@ -169,26 +175,55 @@ pub record Knows (context : Context) (n k : ℕ) (sections : CriticalSections) (
   pub spared : All (IsSpared sections) facts
   pub trace : AreShown context (dated (kept_of sections facts)) builder
 
+-- A record that shows these facts is used or not: it is used only if one of them is kept, and if it isn't used, those that
+-- are kept only set levels or ceilings.
+pub record IsUsed (sections : CriticalSections) (facts : List Fact) (is_used : Bool) : Type 0 where
+  pub used : is_used ≡ true → list_any (is_kept sections) facts ≡ true
+  pub unused : is_used ≡ false → All (λ fact. IsKept sections fact → IsSetting fact.what) facts
+
+-- a stage leads to the next by a record, which is counted once: as used, or else by the reason of the course before it
+pub record CountsRecord (bytes : List ℕ) (sources : Sources) (sections : CriticalSections) (from to : Stage)
+    (before after : Tally) : Type 0 where
+  pub number : to.number ≡ from.number + 1
+  pub is_used : Bool
+  pub reason : LeftOut
+  pub usage : IsUsed sections (shown_in to.course.shown) is_used
+  pub otherwise : IsReasonOf bytes sources to.number from.course reason
+  pub counted : after ≡ one_counted is_used reason before
+
+-- a stage leads to the next by a request that the log lacks, which isn't counted, or by a record
+abbrev pub Counts : List ℕ → Sources → CriticalSections → Stage → Stage → Tally → Tally → Type 0
+Counts bytes sources sections from to before after =
+    ((to.number ≡ from.number) × (after ≡ before)) ⊎ CountsRecord bytes sources sections from to before after
+
+-- each record of a way to this stage, through those before it, is counted, and nothing else
+abbrev pub IsTallied : List ℕ → Sources → CriticalSections → Stage → List Stage → Tally → Type 0
+IsTallied bytes sources sections last [] tally = tally ≡ no_tally
+IsTallied bytes sources sections last (from ∷ before) tally =
+    (earlier : Tally) × Counts bytes sources sections from last earlier tally
+    × IsTallied bytes sources sections from before earlier
+
 -- the stage up to which a walk has come, of which the last record's time and that of what it went by last are known
 abbrev pub stage_of : ℕ → ℕ → ℕ → Walk → Stage
 stage_of number record_time time walk =
     record { number = number; record_time = record_time; added = walk.added; time = time; course = walk.course }
 
 -- A walk went through a log up to the record with this number and time, no course on its way contradicts what was before,
--- and the findings and the trace are those of the facts on its way.
+-- the findings and the trace are those of the facts on its way, and each record is counted.
 pub record HasFollowed (bytes : List ℕ) (context : Context) (sections : CriticalSections) (n k number record_time : ℕ)
-    (walk : Walk) (found : Findings) (builder : BuilderState) : Type 0 where
+    (walk : Walk) (found : Findings) (builder : BuilderState) (tally : Tally) : Type 0 where
   pub time : ℕ
   pub before : List Stage
   pub way : IsWay bytes context.sources.now (stage_of number record_time time walk) before
   pub agree : All Agrees (stage_of number record_time time walk ∷ before)
   pub knows : Knows context n k sections
       (facts_of context.sources.now (stage_of number record_time time walk ∷ before)) found builder
+  pub tallied : IsTallied bytes context.sources.now sections (stage_of number record_time time walk) before tally
 
 -- A walk went through a log, and added each request behind the records so far.
 pub record HasAdded (bytes : List ℕ) (context : Context) (sections : CriticalSections) (n k number record_time : ℕ)
-    (walk : Walk) (found : Findings) (builder : BuilderState) : Type 0 where
-  pub followed : HasFollowed bytes context sections n k number record_time walk found builder
+    (walk : Walk) (found : Findings) (builder : BuilderState) (tally : Tally) : Type 0 where
+  pub followed : HasFollowed bytes context sections n k number record_time walk found builder tally
   pub added : AreAdded context.sources.now.requests.list.items number walk.added
 
 -- the requests that a log lacks have the order of the records behind which they belong
@@ -214,7 +249,7 @@ pub record AreFound (ids : Ids) (n k : ℕ) (sections : CriticalSections) (ended
 
 -- There is a way through all records of a log and all requests that it lacks, such that no course on it contradicts what was
 -- before, what is found is what the facts on the way show, the trace shows those of them that are kept, in turn, by steps at
--- their times, and the course is that behind the last of them.
+-- their times, the course is that behind the last of them, and each record on the way is counted.
 pub record FollowsLog (bytes : List ℕ) (context : Context) (sections : CriticalSections) (n k : ℕ) (built : Built)
     : Type 0 where
   pub last : Stage
@@ -228,6 +263,7 @@ pub record FollowsLog (bytes : List ℕ) (context : Context) (sections : Critica
   pub trace : AreShownIn context (dated (kept_of sections (facts_of context.sources.now (last ∷ before))))
       built.pieces.items built.appearances.items
   pub course : built.course ≡ last.course
+  pub tally : IsTallied bytes context.sources.now sections last before built.tally
 
 -- There is a way through all records of a log and all requests that it lacks, such that the critical sections in the
 -- trace are exactly those of which a fact on the way must stay: a thread begins to wait in it, or the fact may change a

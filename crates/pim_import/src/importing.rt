@@ -10,7 +10,7 @@ ghost use Rattle.pim_findings.specs.Waits.{Moment};
 ghost use Rattle.pim_numbers.specs.declared.fault.ImportFault.TheVariants as import;
 ghost use Rattle.pim_import.specs.Contradicting.{CannotGoOn, ContradictsAt, IsUnfit};
 ghost use Rattle.pim_import.specs.Imports.{IsOfLog, IsOfTrace, IsRefused};
-ghost use Rattle.pim_import.specs.Following.{AreAdded, AreOfLog, ArePlaced, FollowsLog, HasAdded, HasFollowed, Knows};
+ghost use Rattle.pim_import.specs.Following.{AreAdded, AreOfLog, ArePlaced, FollowsLog, HasAdded, HasFollowed, IsUsed, Knows};
 ghost use Rattle.pim_import.specs.Following.{moment_of, moments_of};
 ghost use Rattle.pim_facts.specs.Shown.{shown_in};
 ghost use Rattle.pim_builder.specs.Pieces.{AreJoined, HasTimes};
@@ -19,6 +19,7 @@ ghost use Rattle.pim_builder.specs.Shown.{AreShown};
 ghost use Rattle.pim_builder.specs.Views.{BuilderState};
 ghost use Rattle.pim_import.specs.LeftOut.{IsKept, MayBeLeftOut};
 ghost use Rattle.pim_import.specs.Tallies.{total};
+ghost use Rattle.pim_import.specs.declared.tally.Tally.{Tally};
 
 use crate::critical_sections::CriticalSections;
 use crate::left_out::may_be_left_out;
@@ -210,10 +211,10 @@ fn play(
     end: u64,
 ) -> Result<Tally, ImportFault>
     ensures counted { IfOk result (λ tally. total tally ≡ end - 1) }
-    ensures follows { IfOk result (λ _. (n k : ℕ) → Begins context.now.sources.now.ids walk.old.course → walk.old.added ≡ 0 →
-        ArePlaced log.now context.now.sources.now.requests.list.items →
-        Knows context.now n k sections.now [] findings.old builder.old →
-        (time : ℕ) × HasAdded log.now context.now sections.now n k (end - 1) time walk.new findings.new builder.new) }
+    ensures follows { IfOk result (λ tally. (n k : ℕ) → Begins context.now.sources.now.ids walk.old.course →
+        walk.old.added ≡ 0 → ArePlaced log.now context.now.sources.now.requests.list.items →
+        Knows context.now n k sections.now [] findings.old builder.old → (time : ℕ) ×
+        HasAdded log.now context.now sections.now n k (end - 1) time walk.new findings.new builder.new tally) }
     ensures fault { IfErr result (NamesOneOf end) }
     ensures contradiction { IfErr result (λ fault. (number n k : ℕ) → fault ≡ import.Contradiction number →
         Begins context.now.sources.now.ids walk.old.course → walk.old.added ≡ 0 →
@@ -244,15 +245,15 @@ fn add_requests(
     findings: &mut Findings,
     now: &Now,
 ) -> Result<(), ImportFault>
-    ensures follows { IfOk result (λ _. (bytes : List ℕ) (n k : ℕ) →
-        HasFollowed bytes context.now sections.now n k now.now.number now.now.time walk.old findings.old builder.old →
-        HasFollowed bytes context.now sections.now n k now.now.number now.now.time walk.new findings.new builder.new) }
+    ensures follows { IfOk result (λ _. (bytes : List ℕ) (n k : ℕ) (tally : Tally) →
+        HasFollowed bytes context.now sections.now n k now.now.number now.now.time walk.old findings.old builder.old tally →
+        HasFollowed bytes context.now sections.now n k now.now.number now.now.time walk.new findings.new builder.new tally) }
     ensures added { IfOk result (λ _. let requests = context.now.sources.now.requests.list.items in
         IsInOrder requests → AreAdded requests (now.now.number - 1) walk.old.added →
         AreAdded requests now.now.number walk.new.added) }
     ensures fault { IfErr result (NamesOnly now.now.number) }
-    ensures contradiction { IfErr result (λ fault. IsContradiction fault → (bytes : List ℕ) (n k : ℕ) →
-        HasFollowed bytes context.now sections.now n k now.now.number now.now.time walk.old findings.old builder.old →
+    ensures contradiction { IfErr result (λ fault. IsContradiction fault → (bytes : List ℕ) (n k : ℕ) (tally : Tally) →
+        HasFollowed bytes context.now sections.now n k now.now.number now.now.time walk.old findings.old builder.old tally →
         ContradictsAt bytes context.now sections.now n k now.now.number) }
 {
     for _request in 0..walk.missing(context.sources, now.number) {
@@ -285,6 +286,7 @@ fn show(
     ensures unused { IfOk result (λ is_used. is_used ≡ false → All
         (λ fact. IsSetting fact.what ⊎ MayBeLeftOut walk.now.course context.now.sources.now fact)
         (shown_in walk.now.course.shown)) }
+    ensures usage { IfOk result (IsUsed sections.now (shown_in walk.now.course.shown)) }
     ensures finds { IfOk result (λ _. (n k : ℕ) (facts : List Moment) →
         Knows context.now n k sections.now facts findings.old builder.old →
         let shown = moments_of context.now.sources.now walk.now.course now.now.time (shown_in walk.now.course.shown) in
@@ -327,6 +329,8 @@ fn show_fact(
         IsKept sections.now fact.now ⊎ MayBeLeftOut walk.now.course context.now.sources.now fact.now) }
     ensures unused { IfOk result (λ is_used. is_used ≡ false →
         IsSetting fact.now.what ⊎ MayBeLeftOut walk.now.course context.now.sources.now fact.now) }
+    ensures kept { IfOk result (λ is_used. IsTrue is_used → IsKept sections.now fact.now) }
+    ensures sets { IfOk result (λ is_used. is_used ≡ false → IsKept sections.now fact.now → IsSetting fact.now.what) }
     ensures shows { IfOk result (λ is_used. IsTrue is_used → Shows context.now builder.new fact.now) }
     ensures finds { IfOk result (λ _. (n k : ℕ) (facts : List Moment) →
         Knows context.now n k sections.now facts findings.old builder.old →

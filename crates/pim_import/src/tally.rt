@@ -1,6 +1,6 @@
 //! What became of the records of a log.
 ghost use Rattle.std.specs.Prelude.{◌≡◌, ◌+◌, ◌-◌, ◌^◌, ◌<◌};
-ghost use Rattle.pim_import.specs.Tallies.{total};
+ghost use Rattle.pim_import.specs.Tallies.{left_out_for, no_tally, one_counted, one_left_out, total};
 
 use pim_facts::LeftOut;
 
@@ -32,7 +32,8 @@ pub struct Tally {
 impl Tally {
     /// Returns that no record was looked at.
     pub(crate) fn new() -> Tally
-        ensures { total result ≡ 0 }
+        ensures sum { total result ≡ 0 }
+        ensures none { result ≡ no_tally }
     {
         Tally {
             used: 0,
@@ -51,7 +52,8 @@ impl Tally {
     /// Counts a record that is in the trace, or else is left out for this reason.
     pub(crate) fn count(&mut self, is_used: bool, otherwise: LeftOut)
         requires { total self.old < 2 ^ 64 - 1 }
-        ensures { total self.new ≡ total self.old + 1 }
+        ensures sum { total self.new ≡ total self.old + 1 }
+        ensures one { self.new ≡ one_counted is_used otherwise self.old }
     {
         if is_used {
             self.used += 1;
@@ -63,7 +65,8 @@ impl Tally {
     /// Counts a record that is left out for this reason.
     fn count_left_out(&mut self, reason: LeftOut)
         requires { total self.old < 2 ^ 64 - 1 }
-        ensures { total self.new ≡ total self.old + 1 }
+        ensures sum { total self.new ≡ total self.old + 1 }
+        ensures one { self.new ≡ one_left_out reason self.old }
     {
         match reason {
             LeftOut::Absent => self.absent += 1,
@@ -79,7 +82,9 @@ impl Tally {
     }
 
     /// Returns how many records were left out for this reason.
-    pub fn left_out(&self, reason: LeftOut) -> u64 {
+    pub fn left_out(&self, reason: LeftOut) -> u64
+        ensures { result ≡ left_out_for reason self.now }
+    {
         match reason {
             LeftOut::Absent => self.absent,
             LeftOut::Remark => self.remarks,

@@ -19,7 +19,7 @@ loop-request-preserved c =
     c.add.ensures.added ∙ ap (λ (o : Option Request). option_map_or (λ (r : Request). was + 1) o was) next in
     record {
       added = omega (arith, added, c.loop-request.invariant.added);
-      follows = λ bytes n k followed.
+      follows = λ bytes n k tally followed.
           follows-request bytes c.args.context.now c.args.sections.now n k c.args.now.now.number c.args.now.now.time
           c.unwrap_or.result c.add.result one.0 c.loop-request.walk c.add.new.self c.loop-request.findings
           c.show.new.findings c.loop-request.builder c.show.new.builder next one.1.1 c.add.ensures.time c.unwrap_or.ensures
@@ -33,7 +33,7 @@ loop-request-preserved c =
             told = c.add.ensures.told;
           })
           c.in_ok-_is_used.ensures.agrees (c.in_ok-_is_used.ensures.finds n k)
-          (c.loop-request.invariant.follows bytes n k followed);
+          (c.loop-request.invariant.follows bytes n k tally followed);
     }
 
 pub returns-clause-added : goal.returns-clause-added
@@ -52,7 +52,7 @@ returns-in_err-_is_used-clause-contradiction c =
     let next : slice_get c.args.context.now.sources.now.requests.list.items c.loop-request.walk.added ≡ Some one.0 =
     subst (λ place. slice_get c.args.context.now.sources.now.requests.list.items place ≡ Some one.0)
     (sym c.loop-request.invariant.added) one.1.0 in
-    rw (fault.1, fault.2) (λ is bytes n k followed.
+    rw (fault.1, fault.2) (λ is bytes n k tally followed.
     contradicts-request bytes c.args.context.now c.args.sections.now n k c.args.now.now.number c.args.now.now.time
     c.unwrap_or.result c.add.result one.0 c.loop-request.walk c.add.new.self c.loop-request.findings
     c.loop-request.builder next one.1.1 c.add.ensures.time c.unwrap_or.ensures
@@ -65,4 +65,4 @@ returns-in_err-_is_used-clause-contradiction c =
       details = c.add.ensures.details;
       told = c.add.ensures.told;
     })
-    (c.in_err-_is_used.ensures.stops is n k) (c.loop-request.invariant.follows bytes n k followed))
+    (c.in_err-_is_used.ensures.stops is n k) (c.loop-request.invariant.follows bytes n k tally followed))

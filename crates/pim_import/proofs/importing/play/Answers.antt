@@ -10,7 +10,7 @@ use Rattle.pim_import.proofs.importing.play.Goals as goal
 pub loop-number-init : goal.loop-number-init
 loop-number-init c =
     record {
-      counted = c.new-tally.ensures;
+      counted = c.new-tally.ensures.sum;
       within = omega arith;
       follows = λ n k begins none placed knows.
           let log = c.args.log.now in
@@ -18,8 +18,7 @@ loop-number-init c =
           record {
             followed =
                 follows-begin log c.args.context.now c.args.sections.now n k c.args.walk.now c.args.findings.now
-                c.args.builder.now
-                begins none knows;
+                c.args.builder.now c.new-tally.result begins none knows c.new-tally.ensures.none;
             added = none-added log sources.requests.list.items c.args.walk.now.added none placed;
           };
     }
@@ -36,21 +35,22 @@ loop-number-preserved c =
       follows = λ n k begins none placed knows.
           let at : c.loop-number.number ≡ c.loop-number.number + 1 - 1 = omega arith in
           let has : HasAdded log context sections n k (c.loop-number.number - 1) c.loop-number.time c.loop-number.walk
-          c.loop-number.findings c.loop-number.builder =
+          c.loop-number.findings c.loop-number.builder c.loop-number.tally =
           c.loop-number.invariant.follows n k begins none placed knows in
           let after = c.in_ok-add_requests.ensures in
           subst (λ m. HasAdded log context sections n k m c.unwrap_or-time.result c.add_requests.new.walk
-          c.add_requests.new.findings c.add_requests.new.builder) at
+          c.add_requests.new.findings c.add_requests.new.builder c.count.new.self) at
           (record {
             followed =
-                after.follows log n k
-                (follows-record log context sections n k c.loop-number.number c.loop-number.time c.unwrap_or-time.result
+                after.follows log n k c.count.new.self
+                (follows-record c.in_ok-is_used.is_used c.read-moment.result.otherwise c.loop-number.tally
+                c.count.new.self log context sections n k c.loop-number.number c.loop-number.time c.unwrap_or-time.result
                 c.read-moment.result.time c.loop-number.walk c.read-moment.new.self c.loop-number.findings
-                c.show.new.findings
-                c.loop-number.builder c.show.new.builder c.loop-number.auto.number c.unwrap_or-time.ensures
-                c.read-moment.ensures.time c.read-moment.ensures.added
+                c.show.new.findings c.loop-number.builder c.show.new.builder c.loop-number.auto.number
+                c.unwrap_or-time.ensures c.read-moment.ensures.time c.read-moment.ensures.added
                 c.read-moment.ensures.size c.read-moment.ensures.shown c.in_ok-is_used.ensures.agrees
-                (c.in_ok-is_used.ensures.finds n k) has);
+                (c.in_ok-is_used.ensures.finds n k) c.in_ok-is_used.ensures.usage c.read-moment.ensures.otherwise
+                c.count.ensures.one has);
             added = after.added placed.order
                 (subst (λ added. AreAdded sources.requests.list.items (c.loop-number.number - 1) added)
                 (sym c.read-moment.ensures.added) has.added);
@@ -62,7 +62,7 @@ returns-clause-follows c n k begins none placed knows = (
   c.loop-number.time,
   let at : c.loop-number.number - 1 ≡ c.args.end - 1 = omega arith in
       subst (λ m. HasAdded c.args.log.now c.args.context.now c.args.sections.now n k m c.loop-number.time
-      c.loop-number.walk c.loop-number.findings c.loop-number.builder) at
+      c.loop-number.walk c.loop-number.findings c.loop-number.builder c.loop-number.tally) at
       (c.loop-number.invariant.follows n k begins none placed knows),
 )
 
@@ -94,11 +94,12 @@ returns-in_err-add_requests-clause-contradiction c =
     rw (fault.1, fault.2) (λ number n k is begins none placed knows.
     subst (ContradictsAt log context sections n k)
     (sym (only-one c.in_err-add_requests.field-0.0 number c.loop-number.number is told.fault))
-    (told.contradiction (is-contradiction c.in_err-add_requests.field-0.0 number is) log n k
-    (follows-record log context sections n k c.loop-number.number c.loop-number.time c.unwrap_or-time.result
-    c.read-moment.result.time c.loop-number.walk c.read-moment.new.self c.loop-number.findings c.show.new.findings
+    (told.contradiction (is-contradiction c.in_err-add_requests.field-0.0 number is) log n k c.count.new.self
+    (follows-record c.in_ok-is_used.is_used c.read-moment.result.otherwise c.loop-number.tally c.count.new.self log context
+    sections n k c.loop-number.number c.loop-number.time c.unwrap_or-time.result c.read-moment.result.time
+    c.loop-number.walk c.read-moment.new.self c.loop-number.findings c.show.new.findings
     c.loop-number.builder c.show.new.builder c.loop-number.auto.number c.unwrap_or-time.ensures
     c.read-moment.ensures.time c.read-moment.ensures.added
     c.read-moment.ensures.size c.read-moment.ensures.shown c.in_ok-is_used.ensures.agrees
-    (c.in_ok-is_used.ensures.finds n k)
+    (c.in_ok-is_used.ensures.finds n k) c.in_ok-is_used.ensures.usage c.read-moment.ensures.otherwise c.count.ensures.one
     (c.loop-number.invariant.follows n k begins none placed knows))))

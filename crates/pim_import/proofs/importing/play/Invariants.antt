@@ -12,5 +12,5 @@ invariant-loop-number l = record {
   follows : (n k : ℕ) → Begins l.context.sources.now.ids l.fn.walk.course → l.fn.walk.added ≡ 0 →
       ArePlaced l.log l.context.sources.now.requests.list.items →
       Knows l.context n k l.sections [] l.fn.findings l.fn.builder →
-      HasAdded l.log l.context l.sections n k (l.number - 1) l.time l.walk l.findings l.builder;
+      HasAdded l.log l.context l.sections n k (l.number - 1) l.time l.walk l.findings l.builder l.tally;
 }
