@@ -196,18 +196,22 @@ class World:
         self.was_above = {}                          # by thread `is_above` as it began to wait
         self.level = dict(log.first_level)           # by thread
         self.selves, self.tasks = {}, {}             # threads by process and pthread_t, by task
-        self.tally = defaultdict(int)                # why records have no fact
+        self.tally = defaultdict(int)                # by reason how many records change nothing
+        self.told_of = {}                            # by number of each other record its facts
         self.contradictions = []                     # the numbers of records
         self.rows = {reader.THREAD: self.thread, reader.PRIORITY: self.priority,
-                     reader.CEILING: self.other_ceiling, reader.REQUEST: self.request,
+                     reader.CEILING: self.ceiling_changed, reader.REQUEST: self.request,
                      reader.GRANTED: self.granted, reader.FAILED: self.failed,
                      reader.RELEASE: self.release}
 
     def told(self, record):
         """Returns the facts of a record, and notes whether it contradicts those before it."""
-        row = self.rows.get(record.event)
-        facts = row(record) if row else []
-        return [fact._replace(time=record.time, record=record.number) for fact in facts]
+        row, reasons = self.rows.get(record.event), sum(self.tally.values())
+        facts = row(record) if row else self.left_out("remark")
+        facts = [fact._replace(time=record.time, record=record.number) for fact in facts]
+        if sum(self.tally.values()) == reasons:
+            self.told_of[record.number] = facts
+        return facts
 
     def left_out(self, why):
         self.tally[why] += 1
@@ -218,6 +222,7 @@ class World:
     def thread(self, record):
         process, task, thread = record.chunk.process, record.chunk.task, record.chunk.thread
         self.selves[process, record.object] = self.tasks[task] = thread
+        self.left_out("remark")
         return self.has_level(thread, level_of(record.detail, OTHER_LEVEL))
 
     def priority(self, record):
@@ -226,8 +231,11 @@ class World:
         else:
             thread = self.tasks.get(record.value)
         if thread is None:
-            return []
-        return self.has_level(thread, level_of(record.detail, self.level[thread]))
+            return self.left_out("unchanged")
+        level = level_of(record.detail, self.level[thread])
+        if level == self.level[thread]:
+            self.left_out("unchanged")
+        return self.has_level(thread, level)
 
     def has_level(self, thread, level):
         self.level[thread] = level
@@ -248,6 +256,9 @@ class World:
             return []
         self.ceiling[mutex] = ceiling
         return [Fact(None, thread, CEILING, mutex, ceiling)]
+
+    def ceiling_changed(self, record):
+        return self.other_ceiling(record) or self.left_out("unchanged")
 
     def goes_on(self, thread, but=None):
         """A thread that does something else doesn't wait any more."""

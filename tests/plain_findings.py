@@ -60,10 +60,13 @@ class Findings:
         self.ownerships = []                # that ended: mutex, how long, in which holding
         self.hand_overs = defaultdict(int)  # by mutex and to whom
         self.owners = defaultdict(list)     # by mutex who got it, and in which holding
+        self.went = []                      # the facts, and in which holding each is, if in one
 
     def go(self, fact):
-        {PRIORITY: self.has_level, CEILING: self.has_ceiling, WAITS: self.begin_wait,
-         GAVE_UP: self.give_up, GRANTED: self.grant, RELEASED: self.release}[fact.what](fact)
+        holding = {PRIORITY: self.has_level, CEILING: self.has_ceiling, WAITS: self.begin_wait,
+                   GAVE_UP: self.give_up, GRANTED: self.grant,
+                   RELEASED: self.release}[fact.what](fact)
+        self.went.append((fact, holding))
 
     def has_level(self, fact):
         self.level[fact.thread] = fact.level
@@ -135,6 +138,7 @@ class Findings:
         holding.counts |= bool(self.waits_for(mutex))
         self.owner[mutex], self.holding[mutex], self.since[mutex] = thread, holding, fact.time
         self.owners[mutex].append((thread, holding))
+        return holding
 
     def kind_of_hand_over(self, free, thread, mutex):
         """Returns to whom a mutex goes for which threads waited as it was released, of whom one
@@ -154,6 +158,7 @@ class Findings:
         holding, lasted = self.holding.pop(mutex), max(0, fact.time - self.since.pop(mutex))
         self.ownerships.append((mutex, lasted, holding))
         self.free[mutex] = Free(fact.thread, holding, queue)
+        return holding
 
     # ---- the end
 
@@ -185,6 +190,20 @@ class Findings:
 
     def has(self, holding):
         return self.is_all or holding.counts
+
+    def in_trace(self):
+        """Returns by `id` the facts that a trace shows in which nobody shares a number: those that
+        count, and of levels and ceilings those of threads and mutexes that it showed before."""
+        shown, found = set(), set()
+        for fact, holding in self.went:
+            if fact.what in (PRIORITY, CEILING):
+                is_shown = (fact.thread if fact.what == PRIORITY else fact.mutex) in shown
+            else:
+                is_shown = fact.owner != fact.thread and (holding is None or self.has(holding))
+                shown |= {fact.thread, fact.mutex} if is_shown else set()
+            if is_shown:
+                found.add(id(fact))
+        return found
 
     def longest_first(self):
         """Returns the waits, the longest first, and of equal ones that which ended first."""

@@ -22,7 +22,8 @@ LOGS, FIRST_SEED = 300, 301
 COMPARED = ("faults", "waits", "deadlocks", "added requests", "hand-overs", "ownerships", "bounds",
             "opposite orders")
 FAULT = re.compile(r"pim-import: record (\d+): it contradicts the records before it\n")
-TALLIED = ("again", "refused", "not_owner", "revoked")
+TALLIED = ("absent", "remark", "unchanged", "again", "uncontended", "refused", "not_owner",
+           "revoked", "absentee")
 HAND_OVERS = {"to_the_first_waiter": plain_findings.FIRST,
               "to_a_later_waiter": plain_findings.LATER,
               "to_its_last_owner": plain_findings.LAST_OWNER,
@@ -68,7 +69,8 @@ class Said:
                 "mutexes": sorted(self.mutex(mutex) for mutex in said["mutexes"]),
                 "hand-overs": sorted(self.hand_overs(mutex) for mutex in said["mutexes"]),
                 "deadlocks": sorted(map(rotated, cycles)), "added": said["requests_added"],
-                "left out": {why: left_out[why] for why in TALLIED}, "owners": self.owners(),
+                "used": said["records_used"], "left out": {why: left_out[why] for why in TALLIED},
+                "owners": self.owners(),
                 "bounds": [self.bound(bound) for bound in said["bounds"]],
                 "opposite orders": [list(map(self.nesting, pair)) for pair in said["opposite_orders"]]}
 
@@ -133,8 +135,8 @@ class Plain:
     def __init__(self, data, has_modules=False):
         self.read, self.has_modules = reader.Log(data), has_modules
         self.log = log_facts.Log(self.read.records)
-        self.facts, self.added, world = log_facts.facts_of(self.log)
-        self.fault, self.tally = next(iter(world.contradictions), None), world.tally
+        self.facts, self.added, self.world = log_facts.facts_of(self.log)
+        self.fault = next(iter(self.world.contradictions), None)
 
     def found(self, is_all):
         """Returns what it finds, with the ownerships for which nobody waited or without."""
@@ -145,17 +147,32 @@ class Plain:
         cycles = [[self.thread(thread) for thread in cycle] for cycle in deadlocks]
         is_bad = bool(cycles) or any(self.is_unbounded(wait) for wait in waits)
         mutexes = {wait.mutex for wait in waits}
+        used, left_out = self.tally(findings)
         return {"fault": None, "status": int(is_bad), "number of waits": len(waits),
                 "waits": [self.wait(wait) for wait in waits[:plain_findings.LONGEST]],
                 "all waits": list(map(self.wait, findings.waits)),
                 "mutexes": sorted(self.of_mutex(findings, mutex) for mutex in mutexes),
                 "hand-overs": sorted(self.hand_overs(findings, mutex) for mutex in mutexes),
                 "deadlocks": sorted(map(rotated, cycles)), "added": self.added,
-                "left out": {why: self.tally[why] for why in TALLIED},
-                "owners": self.owners(findings),
+                "used": used, "left out": left_out, "owners": self.owners(findings),
                 "bounds": list(map(self.bound, plain_bounds.bounds_of(self.facts, self.log))),
                 "opposite orders": [list(map(self.nesting, pair)) for pair
                                     in plain_orders.opposites_of(self.facts, self.log)]}
+
+    def tally(self, findings):
+        """Returns how many records the trace shows, and by reason how many it doesn't."""
+        head, shown, raw = self.read.head, findings.in_trace(), self.read.raw
+        left_out = Counter(self.world.tally)
+        left_out["absent"] = (head.first_lost or head.next_number) - 1 - len(raw)
+        left_out["remark"] += len(raw) - len(self.read.records)
+        used = 0
+        for facts in self.world.told_of.values():
+            if shown.isdisjoint(map(id, facts)):
+                is_level = facts[0].what == log_facts.PRIORITY
+                left_out["absentee" if is_level else "uncontended"] += 1
+            else:
+                used += 1
+        return used, {why: left_out[why] for why in TALLIED}
 
     def thread(self, thread):
         return self.log.identity.get(thread)
