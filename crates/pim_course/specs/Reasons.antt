@@ -2,13 +2,13 @@
 -- a record is left out'.
 use Rattle.std.specs.Prelude.{◌≡◌, ◌⊎◌, ℕ, ◌==◌, nat_lt, not, ◌||◌, Bool, if◌then◌else◌, List}
 use Rattle.std.specs.Option.{option_map_or, unwrap_or}
-use Rattle.pim_log.specs.Logs.{IsNumbered, IsRecord}
 use Rattle.pim_log.specs.declared.event.Event.{Event}
 use Rattle.pim_log.specs.declared.event.Event.TheVariants as event
 use Rattle.pim_log.specs.declared.mutex.Mutex.{Mutex}
 use Rattle.pim_log.specs.declared.priority.Priority.{Priority}
 use Rattle.pim_log.specs.declared.record.Record.{Record}
 use Rattle.pim_facts.specs.Levels.{id_of, level_by}
+use Rattle.pim_facts.specs.Naming.{IsAt}
 use Rattle.pim_facts.specs.declared.fact.LeftOut.{LeftOut}
 use Rattle.pim_facts.specs.declared.fact.LeftOut.TheVariants.{Absent, Remark, Unchanged, Again, Uncontended, Refused, NotOwner}
 use Rattle.pim_facts.specs.declared.fact.LeftOut.TheVariants.{Revoked, Absentee}
@@ -77,10 +77,8 @@ reason_of sources course r =
 
 -- the record of a log with this number is left out for this reason, by the course before it
 pub record HasReason (bytes : List ℕ) (sources : Sources) (number : ℕ) (course : Course) (reason : LeftOut) : Type 0 where
-  pub slot : ℕ
   pub found : Record
-  pub numbered : IsNumbered bytes slot number
-  pub is : IsRecord bytes slot found
+  pub is : IsAt bytes number found
   pub given : reason ≡ reason_of sources course found
 
 -- this is why the record with this number is left out: a log that lacks it says nothing of it
