@@ -1,15 +1,21 @@
 -- Who nested two mutexes first, with one nesting more.
-use Rattle.std.proofs.Common.{◌≡◌, ◌==◌, Bool, true, false, cond, not, ◌&&◌, List, [], ◌∷◌, Option, Some, None, refl, sym}
-use Rattle.std.proofs.Common.{ap, ap₂, ◌∙◌, is_eq, arith, eq-eqb}
+use Rattle.std.proofs.Common.{◌≡◌, ◌≢◌, ◌<◌, ◌==◌, ℕ, zero, suc, Bool, true, false, cond, not, ◌&&◌, List, [], ◌∷◌, length}
+use Rattle.std.proofs.Common.{get_or, set, Option, Some, None, refl, sym, ap, ap₂, ◌∙◌, subst, inl, inr, is_eq, arith, eq-eqb}
+use Rattle.std.proofs.Math.ListN.{length-set}
+use Rattle.std.specs.List.{slice_get}
 use Rattle.std.specs.Option.{option_map, option_map_or}
 use Rattle.std.specs.BTreeMap as tree
 use Rattle.std.specs.BTreeMap.{BTreeMap}
-use Rattle.std.proofs.lemmas.Bool.{and_left, and_parts, cond-false, cond-true, eqb-true}
-use Rattle.std.proofs.lemmas.Option.{none-some}
+use Rattle.std.proofs.lemmas.Bool.{and_left, and_parts, cases_eq, cond-false, cond-true, eqb-true, lt-ltb, ne_eqb}
+use Rattle.std.proofs.lemmas.Option.{none-some, slice_get-get_or}
 use Rattle.pim_deadlocks.specs.declared.nesting.Nesting.{Nesting}
 use Rattle.pim_deadlocks.specs.declared.nesting.Order.{Order}
+use Rattle.pim_deadlocks.specs.declared.orders.Orders.{Orders}
 use Rattle.pim_deadlocks.specs.declared.orders.Seen.{Seen}
-use Rattle.pim_deadlocks.specs.Seen.{AreSeen, by_mutexes, earliest, is_of, is_of_other, other_with, seen_in, seen_with}
+use Rattle.pim_deadlocks.specs.declared.owned.Owned.{Owned}
+use Rattle.pim_deadlocks.specs.Nestings.{Moment, after_own, and_nested, asked_by, nestings, owned}
+use Rattle.pim_deadlocks.specs.Seen.{AreSeen, Knows, and_fact, by_mutexes, earliest, is_of, is_of_other, other_with}
+use Rattle.pim_deadlocks.specs.Seen.{owned_in, seen_in, seen_with}
 
 or-none : (o : Option Nesting) → option_map_or (λ e. Some e) o None ≡ o
 or-none None = refl
@@ -133,3 +139,59 @@ seen-kept n before old was is all seen order = go (is_of order n) refl
         let these : before ≡ seen_in all order = was ∙ ap (tree.get by_mutexes old) same ∙ seen order in
         seen order ∙ sym these ∙ is ∙ ap (λ o. Some (seen_with o n)) these ∙ sym (seen-own n all order test)
     go false test = seen order ∙ sym (seen-other n all order test)
+
+-- ---- one fact more
+
+abbrev mutexes_at : List Owned → ℕ → List ℕ
+mutexes_at owned t = option_map_or (λ is. is.mutexes.items) (slice_get owned t) []
+
+at-same : (owned : List Owned) (t : ℕ) (is : Owned) → t < length owned → mutexes_at (set owned t is) t ≡ is.mutexes.items
+at-same [] t is lt = absurd (omega (arith, lt))
+at-same (x ∷ owned) zero is lt = refl
+at-same (x ∷ owned) (suc t) is lt = at-same owned t is (omega (arith, lt))
+
+at-other : (owned : List Owned) (t u : ℕ) (is : Owned) → u ≢ t → mutexes_at (set owned t is) u ≡ mutexes_at owned u
+at-other [] t u is ne = refl
+at-other (x ∷ owned) zero zero is ne = absurd (ne refl)
+at-other (x ∷ owned) zero (suc u) is ne = refl
+at-other (x ∷ owned) (suc t) zero is ne = refl
+at-other (x ∷ owned) (suc t) (suc u) is ne = at-other owned t u is (λ e. ne (ap suc e))
+
+-- what the thread at a place owns
+pub owned-at : (orders : Orders) (t : ℕ) (is : Owned) → t < length orders.owned.items → is ≡ get_or orders.owned.items t is →
+    owned_in orders t ≡ is.mutexes.items
+owned-at orders t is lt e =
+    ap (λ o. option_map_or (λ (one : Owned). one.mutexes.items) o [])
+    (slice_get-get_or orders.owned.items t is lt ∙ ap (λ one. Some one) (sym e))
+
+-- what is known with a fact of a thread that is known
+pub knows-more : (n : ℕ) (facts : List Moment) (m : Moment) (is : Owned) (old new : Orders) →
+    m.fact.thread < length old.owned.items → new.owned.items ≡ set old.owned.items m.fact.thread is →
+    is.mutexes.items ≡ after_own m.fact.what (owned_in old m.fact.thread) →
+    ((all : List Nesting) → AreSeen all old.seen →
+    AreSeen (option_map_or (λ inner. and_nested m.course m.fact inner (owned_in old m.fact.thread) all)
+    (asked_by m.course m.fact.what) all) new.seen) →
+    Knows n facts old → Knows n (and_fact n m facts) new
+knows-more n facts m is old new within put own adds known =
+    subst (λ b. Knows n (cond b (m ∷ facts) facts) new) (sym (lt-ltb m.fact.thread n below)) (record {
+      threads = ap length put ∙ length-set old.owned.items m.fact.thread is ∙ known.threads;
+      owned = λ u lt. elim (cases_eq u m.fact.thread) [
+        | inl same ↦
+            ap (λ l. mutexes_at l u) put ∙ ap (mutexes_at (set old.owned.items m.fact.thread is)) same
+            ∙ at-same old.owned.items m.fact.thread is within ∙ own ∙ ap (after_own m.fact.what) (was u lt same)
+            ∙ sym (ap (λ b. cond b (after_own m.fact.what (owned facts u)) (owned facts u)) (eq-eqb _ _ (sym same)))
+        | inr ne ↦
+            ap (λ l. mutexes_at l u) put ∙ at-other old.owned.items m.fact.thread u is ne ∙ known.owned u lt
+            ∙ sym (ap (λ b. cond b (after_own m.fact.what (owned facts u)) (owned facts u)) (ne_eqb _ _ (λ e. ne (sym e))))
+      ];
+      seen = subst
+          (λ l. AreSeen (option_map_or (λ inner. and_nested m.course m.fact inner l (nestings facts))
+          (asked_by m.course m.fact.what) (nestings facts)) new.seen)
+          (known.owned m.fact.thread below) (adds (nestings facts) known.seen);
+    })
+  where
+    below : m.fact.thread < n
+    below = let e = known.threads in omega (arith, within, e)
+
+    was : (u : ℕ) → u < n → u ≡ m.fact.thread → owned_in old m.fact.thread ≡ owned facts u
+    was u lt same = ap (owned_in old) (sym same) ∙ known.owned u lt

@@ -1,6 +1,7 @@
 //! The orders in which threads took mutexes.
 ghost use Rattle.std.specs.Prelude.{◌≡◌, ℕ, List, [], ◌∷◌, Option, Some, IfOk, IfSome, IfNone};
-ghost use Rattle.pim_deadlocks.specs.Nestings.{Moment, and_nested, and_order, nestings};
+ghost use Rattle.std.specs.Option.{option_map_or};
+ghost use Rattle.pim_deadlocks.specs.Nestings.{Moment, and_nested, and_order, asked_by, nestings};
 ghost use Rattle.pim_deadlocks.specs.Opposites.{AreOpposites};
 ghost use Rattle.pim_deadlocks.specs.Seen.{AreOrders, AreSeen, Knows, and_fact, seen_with};
 
@@ -8,7 +9,7 @@ use crate::nesting::{Nesting, Order, asked_by};
 use crate::opposite::{Opposite, opposite_in};
 use crate::owned::Owned;
 use pim_course::Course;
-use pim_facts::{Fact, What};
+use pim_facts::Fact;
 use std::alloc::{AllocError, Global};
 use std::collections::BTreeMap;
 
@@ -65,18 +66,8 @@ impl Orders {
         if thread >= self.owned.len() {
             return Ok(());
         }
-        if let Some(inner) = asked_by(course, fact.what) {
-            let owned = &self.owned[thread].mutexes;
-            add_all(&mut self.seen, owned, course, fact, inner)?;
-        }
-        match fact.what {
-            What::Granted(mutex) => self.owned[thread].add(mutex),
-            What::Released { mutex, .. } => {
-                self.owned[thread].remove(mutex);
-                Ok(())
-            }
-            What::Waits(_) | What::GaveUp(_) | What::Level(_) | What::Ceiling { .. } => Ok(()),
-        }
+        add_asked(&mut self.seen, &self.owned[thread].mutexes, course, fact)?;
+        self.owned[thread].look(fact.what)
     }
 
     /// Returns the orders in which threads took two mutexes, each once: ascending.
@@ -114,6 +105,23 @@ impl Orders {
             }
         }
         Ok(found)
+    }
+}
+
+/// Adds the mutex that the thread of a fact asks for while it owns these, if it asks for one.
+fn add_asked(
+    seen: &mut BTreeMap<Order, Seen>,
+    owned: &[u32],
+    course: &Course,
+    fact: &Fact,
+) -> Result<(), AllocError>
+    ensures { IfOk result (λ _. (all : List Nesting) → AreSeen all seen.old →
+        AreSeen (option_map_or (λ inner. and_nested course.now fact.now inner owned.now all)
+        (asked_by course.now fact.now.what) all) seen.new) }
+{
+    match asked_by(course, fact.what) {
+        Some(inner) => add_all(seen, owned, course, fact, inner),
+        None => Ok(()),
     }
 }
 

@@ -1,6 +1,8 @@
 //! The mutexes that a thread owns.
 ghost use Rattle.std.specs.Prelude.{◌≡◌, ◌==◌, ◌++◌, ◌∷◌, [], not, filter, OnOk};
+ghost use Rattle.pim_deadlocks.specs.Nestings.{after_own};
 
+use pim_facts::What;
 use std::alloc::{AllocError, Global};
 
 /// The mutexes that a thread owns, in the order in which it took them.
@@ -19,12 +21,30 @@ impl Owned {
         }
     }
 
+    /// Learns from what happened to the thread.
+    ///
+    /// # Errors
+    ///
+    /// Returns `AllocError` if out of memory.
+    pub fn look(&mut self, what: What) -> Result<(), AllocError>
+        ensures { OnOk result (self.new.mutexes.items ≡ after_own what self.old.mutexes.items) }
+    {
+        match what {
+            What::Granted(mutex) => self.add(mutex),
+            What::Released { mutex, .. } => {
+                self.remove(mutex);
+                Ok(())
+            }
+            What::Waits(_) | What::GaveUp(_) | What::Level(_) | What::Ceiling { .. } => Ok(()),
+        }
+    }
+
     /// One mutex more is owned.
     ///
     /// # Errors
     ///
     /// Returns `AllocError` if out of memory.
-    pub fn add(&mut self, mutex: u32) -> Result<(), AllocError>
+    fn add(&mut self, mutex: u32) -> Result<(), AllocError>
         ensures { OnOk result (self.new.mutexes.items ≡ self.old.mutexes.items ++ mutex ∷ []) }
     {
         match self.mutexes.push(mutex) {
@@ -34,7 +54,7 @@ impl Owned {
     }
 
     /// A mutex isn't owned any more.
-    pub fn remove(&mut self, mutex: u32)
+    fn remove(&mut self, mutex: u32)
         ensures { self.new.mutexes.items ≡ filter (λ other. not (other == mutex)) self.old.mutexes.items }
     {
         self.mutexes.retain(|other| *other != mutex);
