@@ -45,11 +45,14 @@ pub struct Fact {
 pub enum LeftOut {
     /// No record has the number: its thread was killed while it put the record.
     Absent,
-    /// It names a thread, a file, a place or a process, or a mutex that begins or ends.
+    /// It names a thread, a file, a place or a process, or a mutex that begins or ends, or it is of
+    /// a release that failed, or of a wait for something other than a mutex.
     Remark,
-    /// It sets a priority or a ceiling that was so before.
+    /// It sets a priority or a ceiling that was so before, or the priority of no known thread, or a
+    /// ceiling of a mutex that isn't a PROTECT one.
     Unchanged,
-    /// Its thread owns the mutex already, and locks it again or unlocks it once.
+    /// Its thread owns the mutex already, and locks it again or unlocks it once. Or it asks for the
+    /// mutex, and waits for it already.
     Again,
     /// Nobody waited for the mutex while it was owned.
     Uncontended,
@@ -57,7 +60,7 @@ pub enum LeftOut {
     Refused,
     /// It is a release by a thread that isn't the owner.
     NotOwner,
-    /// It is a release that the system refused.
+    /// It is the release of a wait at a condition variable, which the system refused.
     Revoked,
     /// It sets the priority of a thread that takes no part then.
     Absentee,
