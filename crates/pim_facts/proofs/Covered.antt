@@ -1,6 +1,7 @@
 -- How the records of a log are read one after the other.
 use Rattle.std.proofs.Common.{◌≡◌, ◌≢◌, ℕ, ◌+◌, ◌-◌, ◌*◌, ◌/◌, ◌^◌, ◌<◌, ◌≤◌, ◌%◌, ◌==◌, ◌&&◌, ◌||◌, nat_le}
-use Rattle.std.proofs.Common.{Bool, true, false, cond, List, length, set, Option, Some, None, MatchOption, refl, sym, ap, subst}
+use Rattle.std.proofs.Common.{Bool, true, false, cond, List, length, set, Option, Some, None, MatchOption, refl, sym, ap}
+use Rattle.std.proofs.Common.{subst}
 use Rattle.std.proofs.Common.{◌∙◌, inl, inr, eq-eqb, arith}
 use Rattle.std.proofs.Math.Nat.{mul-mod_right}
 use Rattle.std.proofs.lemmas.Bool.{cases_lt, eqb-true}
@@ -10,7 +11,8 @@ use Rattle.std.proofs.lemmas.List.{get_or-set_other, length-set}
 use Rattle.std.specs.Prelude.{IfSome, unwrap_or}
 use Rattle.pim_log.specs.Events.{Says, mutex_of}
 use Rattle.pim_log.specs.Headers.{header_of, end_of}
-use Rattle.pim_log.specs.Logs.{IsLog, IsNumbered, IsRecord, IsSlot, fields_in, head_fault, head_of, mark_in, number_in, record_fault, slot_at, slot_fault, slots_of, thread_in}
+use Rattle.pim_log.specs.Logs.{IsLog, IsNumbered, IsRecord, IsSlot, fields_in, head_fault, head_of, mark_in, number_in}
+use Rattle.pim_log.specs.Logs.{record_fault, slot_at, slot_fault, slots_of, thread_in}
 use Rattle.pim_log.specs.Numbers.{number_at}
 use Rattle.pim_log.specs.declared.event.Event.{Event}
 use Rattle.pim_log.specs.declared.event.Event.TheVariants as events

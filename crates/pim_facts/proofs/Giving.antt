@@ -1,6 +1,8 @@
 -- Which levels a log has, record by record.
-use Rattle.std.proofs.Common.{◌≡◌, ◌≢◌, ◌⊎◌, ℕ, zero, suc, ◌+◌, ◌<◌, ◌≤◌, ◌==◌, ◌||◌, Bool, true, false, cond, List, [], ◌∷◌, length, set, replicate}
-use Rattle.std.proofs.Common.{get_or, min, Option, Some, None, IsTrue, refl, sym, ap, subst, ◌∙◌, inl, inr, eq-eqb, arith, true≢false}
+use Rattle.std.proofs.Common.{◌≡◌, ◌≢◌, ◌⊎◌, ℕ, zero, suc, ◌+◌, ◌<◌, ◌≤◌, ◌==◌, ◌||◌, Bool, true, false, cond, List, [], ◌∷◌}
+use Rattle.std.proofs.Common.{length, set, replicate}
+use Rattle.std.proofs.Common.{get_or, min, Option, Some, None, IsTrue, refl, sym, ap, subst, ◌∙◌, inl, inr, eq-eqb, arith}
+use Rattle.std.proofs.Common.{true≢false}
 use Rattle.std.proofs.lemmas.Bool.{cases_eq, cases_lt, eqb-true}
 use Rattle.std.proofs.lemmas.List.{get_or-set_other, get_or-set_same, length-set}
 use Rattle.std.specs.Option.{option_map, option_map_or}
@@ -15,7 +17,8 @@ use Rattle.pim_log.specs.declared.mutex.Protocol.TheVariants as protocols
 use Rattle.pim_log.specs.declared.priority.Priority.{Priority}
 use Rattle.pim_log.specs.declared.priority.Priority.TheVariants as priorities
 use Rattle.pim_log.specs.declared.record.Record.{Record}
-use Rattle.pim_facts.specs.Giving.{AddsLevelsOf, Gives, HasGiven, HasLevels, BeginsUnsaid, IsGiven, IsMet, KnowsGiven, is_met, level_given, level_unsaid, priority_said, with_level}
+use Rattle.pim_facts.specs.Giving.{AddsLevelsOf, Gives, HasGiven, HasLevels, BeginsUnsaid, IsGiven, IsMet, KnowsGiven, is_met}
+use Rattle.pim_facts.specs.Giving.{level_given, level_unsaid, priority_said, with_level}
 use Rattle.pim_facts.specs.Levels.{ceiling_by, ceiling_said, level_by}
 use Rattle.pim_facts.specs.Naming.{IsAt, is_begin}
 use Rattle.pim_facts.specs.declared.ids.Ids.{Ids}

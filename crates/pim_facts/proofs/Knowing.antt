@@ -1,5 +1,6 @@
 -- What each mutex of a log is, record by record.
-use Rattle.std.proofs.Common.{◌≡◌, ◌≢◌, ℕ, zero, suc, ◌+◌, ◌<◌, ◌≤◌, ◌==◌, Bool, true, false, cond, List, [], ◌∷◌, length, set, Option, Some, None, MatchOption, refl, sym, ap, subst, ◌∙◌, arith}
+use Rattle.std.proofs.Common.{◌≡◌, ◌≢◌, ℕ, zero, suc, ◌+◌, ◌<◌, ◌≤◌, ◌==◌, Bool, true, false, cond, List, [], ◌∷◌, length}
+use Rattle.std.proofs.Common.{set, Option, Some, None, MatchOption, refl, sym, ap, subst, ◌∙◌, arith}
 use Rattle.std.proofs.lemmas.Grind.{get_or-set_at}
 use Rattle.std.proofs.lemmas.List.{get_or-set_other}
 use Rattle.std.specs.Prelude.{IfSome, slice_get, unwrap_or}
@@ -11,7 +12,8 @@ use Rattle.pim_log.specs.declared.mutex.Mutex.{Mutex}
 use Rattle.pim_log.specs.declared.mutex.MutexKind.{MutexKind}
 use Rattle.pim_log.specs.declared.record.Record.{Record}
 use Rattle.pim_facts.specs.Covering.{HasId, HasKnownMutex, HasRead, HasThread}
-use Rattle.pim_facts.specs.Knowing.{KnowsBelow, KnowsMutexes, Learns, LearnsOf, first_kind, kind_by, kind_said, known_by, known_in, known_of, learned}
+use Rattle.pim_facts.specs.Knowing.{KnowsBelow, KnowsMutexes, Learns, LearnsOf, first_kind, kind_by, kind_said, known_by}
+use Rattle.pim_facts.specs.Knowing.{known_in, known_of, learned}
 use Rattle.pim_facts.specs.Levels.{id_in, id_of}
 use Rattle.pim_facts.specs.Naming.{AreBelow}
 use Rattle.pim_facts.specs.declared.ids.Ids.{Ids}

@@ -1,11 +1,13 @@
 -- What each thread of a log is, record by record.
-use Rattle.std.proofs.Common.{◌≡◌, ℕ, zero, suc, ◌+◌, ◌<◌, ◌≤◌, ◌==◌, ◌&&◌, Bool, true, false, cond, List, [], ◌∷◌, get_or, Some, refl, ap, subst, ◌∙◌, arith}
+use Rattle.std.proofs.Common.{◌≡◌, ℕ, zero, suc, ◌+◌, ◌<◌, ◌≤◌, ◌==◌, ◌&&◌, Bool, true, false, cond, List, [], ◌∷◌, get_or}
+use Rattle.std.proofs.Common.{Some, refl, ap, subst, ◌∙◌, arith}
 use Rattle.std.specs.Prelude.{slice_get}
 use Rattle.std.specs.Option.{option_map, option_map_or}
 use Rattle.pim_log.specs.Headers.{header_of, end_of}
 use Rattle.pim_log.specs.Logs.{IsNumbered, IsRecord}
 use Rattle.pim_log.specs.declared.record.Record.{Record}
-use Rattle.pim_facts.specs.Logged.{ChangesThread, HasLogged, HasThreads, last_begin_of, last_of, level_begun, logged_at, met_by, nobody, thread_of, with_begun}
+use Rattle.pim_facts.specs.Logged.{ChangesThread, HasLogged, HasThreads, last_begin_of, last_of, level_begun, logged_at}
+use Rattle.pim_facts.specs.Logged.{met_by, nobody, thread_of, with_begun}
 use Rattle.pim_facts.specs.Levels.{first_level}
 use Rattle.pim_facts.specs.Naming.{AreBelow, IsAt, is_begin}
 use Rattle.pim_facts.specs.declared.ids.Ids.{Ids}

@@ -1,5 +1,6 @@
 -- Which thread each record of a log is about that isn't of a mutex, record by record.
-use Rattle.std.proofs.Common.{◌≡◌, ◌≢◌, ℕ, ◌+◌, ◌<◌, ◌≤◌, ◌==◌, ◌&&◌, Bool, true, false, cond, List, [], ◌∷◌, length, set, Option, Some, None, refl, sym, ap, subst, ◌∙◌, inl, inr, arith}
+use Rattle.std.proofs.Common.{◌≡◌, ◌≢◌, ℕ, ◌+◌, ◌<◌, ◌≤◌, ◌==◌, ◌&&◌, Bool, true, false, cond, List, [], ◌∷◌, length, set}
+use Rattle.std.proofs.Common.{Option, Some, None, refl, sym, ap, subst, ◌∙◌, inl, inr, arith}
 use Rattle.std.proofs.lemmas.Bool.{cases_lt}
 use Rattle.std.proofs.lemmas.Grind.{get_or-set_at}
 use Rattle.std.proofs.lemmas.List.{get_or-set_other}
@@ -13,7 +14,8 @@ use Rattle.pim_log.specs.declared.event.ThreadKey.TheVariants as keys
 use Rattle.pim_log.specs.declared.record.Record.{Record}
 use Rattle.pim_facts.specs.Covering.{CoversBelow, HasRead, HasThoseOf, HasThread}
 use Rattle.pim_facts.specs.Levels.{id_in, id_of}
-use Rattle.pim_facts.specs.Meaning.{HasBegun, IsAbout, MeansBelow, MeansThreads, begun_by, last_by, named_by, thread_by, thread_found}
+use Rattle.pim_facts.specs.Meaning.{HasBegun, IsAbout, MeansBelow, MeansThreads, begun_by, last_by, named_by, thread_by}
+use Rattle.pim_facts.specs.Meaning.{thread_found}
 use Rattle.pim_facts.specs.Naming.{AreBelow, HasNamed, IsAt, is_begin, is_begin_at, last_begun_at}
 use Rattle.pim_facts.specs.declared.ids.Ids.{Ids}
 use Rattle.pim_facts.specs.declared.tasks.Tasks.{Tasks}

@@ -1,5 +1,7 @@
 -- Which mutex each record of a log is about, record by record.
-use Rattle.std.proofs.Common.{◌≡◌, ◌≢◌, ℕ, zero, suc, ◌+◌, ◌<◌, ◌≤◌, ◌==◌, ◌&&◌, Bool, true, false, cond, IsTrue, List, [], ◌∷◌, ◌++◌, length, map, set, get_or, Option, Some, None, MatchOption, refl, sym, ap, subst, ◌∙◌, inl, inr, append_assoc, eq-eqb, arith}
+use Rattle.std.proofs.Common.{◌≡◌, ◌≢◌, ℕ, zero, suc, ◌+◌, ◌<◌, ◌≤◌, ◌==◌, ◌&&◌, Bool, true, false, cond, IsTrue, List, []}
+use Rattle.std.proofs.Common.{◌∷◌, ◌++◌, length, map, set, get_or, Option, Some, None, MatchOption, refl, sym, ap, subst, ◌∙◌}
+use Rattle.std.proofs.Common.{inl, inr, append_assoc, eq-eqb, arith}
 use Rattle.std.proofs.lemmas.Bool.{cases_lt}
 use Rattle.std.proofs.lemmas.Grind.{get_or-set_at}
 use Rattle.std.proofs.lemmas.List.{get_or-set_other, length-map, map-append}
@@ -12,7 +14,9 @@ use Rattle.pim_log.specs.Headers.{header_of, end_of}
 use Rattle.pim_log.specs.Logs.{IsLog, IsNumbered, IsRecord}
 use Rattle.pim_log.specs.declared.mutex.Mutex.{Mutex}
 use Rattle.pim_log.specs.declared.record.Record.{Record}
-use Rattle.pim_facts.specs.Addresses.{Addresses, FindsMutexes, HasAddresses, IsMeant, IsOfMeant, KnowsAddresses, KnowsPlaces, about_by, addresses_of, after_record, behind, is_init, meant, mutex_by, next_mutex, owner_by, places_of, says_shared, there_before, with_mutex}
+use Rattle.pim_facts.specs.Addresses.{Addresses, FindsMutexes, HasAddresses, IsMeant, IsOfMeant, KnowsAddresses, KnowsPlaces}
+use Rattle.pim_facts.specs.Addresses.{about_by, addresses_of, after_record, behind, is_init, meant, mutex_by, next_mutex}
+use Rattle.pim_facts.specs.Addresses.{owner_by, places_of, says_shared, there_before, with_mutex}
 use Rattle.pim_facts.specs.Covering.{Grows, HasId, HasKnownMutex, HasRead, HasThread}
 use Rattle.pim_facts.specs.Levels.{id_in, id_of}
 use Rattle.pim_facts.specs.Naming.{AreBelow, IsAt}

@@ -1,5 +1,6 @@
 -- Which thread a REQUEST names, record by record.
-use Rattle.std.proofs.Common.{◌≡◌, ◌≢◌, ℕ, ◌+◌, ◌^◌, ◌<◌, ◌≤◌, ◌==◌, ◌&&◌, Bool, true, false, cond, List, [], ◌∷◌, length, set, Option, Some, None, refl, sym, ap, subst, ◌∙◌, inl, inr, arith}
+use Rattle.std.proofs.Common.{◌≡◌, ◌≢◌, ℕ, ◌+◌, ◌^◌, ◌<◌, ◌≤◌, ◌==◌, ◌&&◌, Bool, true, false, cond, List, [], ◌∷◌, length}
+use Rattle.std.proofs.Common.{set, Option, Some, None, refl, sym, ap, subst, ◌∙◌, inl, inr, arith}
 use Rattle.std.proofs.lemmas.Bool.{cases_lt}
 use Rattle.std.proofs.lemmas.Grind.{get_or-set_at}
 use Rattle.std.proofs.lemmas.List.{get_or-set_other, length-set}
@@ -14,7 +15,8 @@ use Rattle.pim_log.specs.declared.fields.Fields.{Fields}
 use Rattle.pim_log.specs.declared.record.Record.{Record}
 use Rattle.pim_facts.specs.Covering.{CoversBelow, HasThoseOf}
 use Rattle.pim_facts.specs.Levels.{id_in, id_of}
-use Rattle.pim_facts.specs.Naming.{AreBelow, HasNamed, IsAt, IsNamed, Names, begun, begun_at, is_begin, is_begin_at, last_begun, named_task}
+use Rattle.pim_facts.specs.Naming.{AreBelow, HasNamed, IsAt, IsNamed, Names, begun, begun_at, is_begin, is_begin_at}
+use Rattle.pim_facts.specs.Naming.{last_begun, named_task}
 use Rattle.pim_facts.specs.declared.ids.Ids.{Ids}
 use Rattle.pim_facts.specs.declared.tasks.Tasks.{Tasks}
 use Rattle.pim_facts.proofs.Covered.{not-zero, of_number, same-slot}

@@ -2,7 +2,9 @@ use Rattle.std.proofs.Common.{◌≡◌, Some, sym, subst, ◌∙◌}
 use Rattle.pim_facts.specs.Addresses.{KnowsPlaces, meant}
 use Rattle.pim_facts.proofs.Addresses.{by-map, keeps}
 use Rattle.pim_facts.proofs.places.Places.mutex.Goals as goal
-use Rattle.pim_facts.proofs.places.Places.mutex.Goals.{in_default-via-in-Some-Some+then-found-address+else-found-process, in_default-via-in-Some-Some+else-found-address, in_default-via-in-Some+in_default, in_default-via-in_default}
+use Rattle.pim_facts.proofs.places.Places.mutex.Goals.{in_default-via-in-Some-Some+then-found-address+else-found-process}
+use Rattle.pim_facts.proofs.places.Places.mutex.Goals.{in_default-via-in-Some-Some+else-found-address}
+use Rattle.pim_facts.proofs.places.Places.mutex.Goals.{in_default-via-in-Some+in_default, in_default-via-in_default}
 
 pub returns-in_err-found-in_default-clause-known : goal.returns-in_err-found-in_default-clause-known
 returns-in_err-found-in_default-clause-known c known knows =
