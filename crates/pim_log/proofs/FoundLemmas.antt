@@ -1,14 +1,17 @@
 -- The record that a log has of a number.
-use Rattle.std.proofs.Common.{◌≡◌, ℕ, ◌+◌, ◌-◌, ◌*◌, ◌/◌, ◌<◌, ◌≤◌, ◌%◌, ◌==◌, Bool, true, false, not, ◌&&◌, nat_lt, cond, List, length, get_or, Option, Some, None, MatchOption, arith, refl, ap, sym, subst, ◌∙◌, ◌≢◌}
+use Rattle.std.proofs.Common.{◌≡◌, ℕ, ◌+◌, ◌-◌, ◌*◌, ◌/◌, ◌<◌, ◌≤◌, ◌%◌, ◌==◌, Bool, true, false, not, ◌&&◌, nat_lt, cond}
+use Rattle.std.proofs.Common.{List, length, get_or, Option, Some, None, MatchOption, arith, refl, ap, sym, subst, ◌∙◌, ◌≢◌}
 use Rattle.std.proofs.lemmas.Bool.{ltb-false}
 use Rattle.std.proofs.lemmas.Bool.Decides.{nat_tests}
 use Rattle.std.proofs.lemmas.Grind.{get_or_default_zero}
 use Rattle.std.specs.Option.{option_or}
-use Rattle.pim_log.specs.Headers.{chunks_of, counter_fault, end_of, form_fault_of, header_fault, header_of, is_contradictory, used_of}
+use Rattle.pim_log.specs.Headers.{chunks_of, counter_fault, end_of, form_fault_of, header_fault, header_of, is_contradictory}
+use Rattle.pim_log.specs.Headers.{used_of}
 use Rattle.pim_log.specs.declared.fault.HeaderFault.TheVariants.{Contradiction, CutShort, TooManyNumbers}
 use Rattle.pim_log.specs.declared.fault.SlotFault.TheVariants.{OutsideChunk, OutOfOrder, NumberTooHigh, UnknownEvent}
 use Rattle.pim_log.specs.Events.{is_event, is_event_of}
-use Rattle.pim_log.specs.Logs.{code_in, number_in, mark_in, is_in_order, slot_at, slot_fault, slots_of, head_in, AreHeads, IsIndex, IsSlot, IsNumbered, IsRecord}
+use Rattle.pim_log.specs.Logs.{code_in, number_in, mark_in, is_in_order, slot_at, slot_fault, slots_of, head_in, AreHeads}
+use Rattle.pim_log.specs.Logs.{IsIndex, IsSlot, IsNumbered, IsRecord}
 use Rattle.pim_log.specs.declared.heads.Head.{Head}
 use Rattle.pim_log.specs.declared.record.Record.{Record}
 

@@ -1,6 +1,7 @@
 -- The fields of a record say one event, and a slot has one record.
 use Rattle.std.proofs.Common.{◌≡◌, ◌∙◌, ℕ, ◌==◌, List, if◌then◌else◌, ap, refl, sym}
-use Rattle.pim_log.specs.Events.{Says, bare_mutex_in, call_of, condition_in, granted_after, key_of, mutex_in, object_of, outcome_of, owner_of, priority_of, text_of, took_of}
+use Rattle.pim_log.specs.Events.{Says, bare_mutex_in, call_of, condition_in, granted_after, key_of, mutex_in, object_of}
+use Rattle.pim_log.specs.Events.{outcome_of, owner_of, priority_of, text_of, took_of}
 use Rattle.pim_log.specs.Logs.{IsRecord, fields_in}
 use Rattle.pim_log.specs.declared.event.Event.{Event}
 use Rattle.pim_log.specs.declared.event.Event.TheVariants as events

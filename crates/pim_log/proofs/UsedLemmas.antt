@@ -1,14 +1,18 @@
 -- The used part of a log is the log.
-use Rattle.std.proofs.Common.{◌≡◌, ℕ, zero, suc, ◌+◌, ◌-◌, ◌*◌, ◌==◌, ◌<◌, ◌≤◌, min, Bool, true, false, not, ◌&&◌, ◌||◌, cond, nat_le, nat_lt, List, length, slice_index, get_or, take, drop, Option, Some, None, refl, sym, ◌∙◌, ap, subst, inl, inr, arith}
+use Rattle.std.proofs.Common.{◌≡◌, ℕ, zero, suc, ◌+◌, ◌-◌, ◌*◌, ◌==◌, ◌<◌, ◌≤◌, min, Bool, true, false, not, ◌&&◌, ◌||◌, cond}
+use Rattle.std.proofs.Common.{nat_le, nat_lt, List, length, slice_index, get_or, take, drop, Option, Some, None, refl, sym}
+use Rattle.std.proofs.Common.{◌∙◌, ap, subst, inl, inr, arith}
 use Rattle.std.specs.Option.{option_or}
 use Rattle.std.proofs.lemmas.Bool.{cases_lt, eqb-true}
 use Rattle.std.proofs.lemmas.Bool.Decides.{nat_tests}
 use Rattle.std.proofs.lemmas.List.{get_or-drop, get_or-take, length-take}
 use Rattle.byteorder.specs.Endian.{little_from}
 use Rattle.pim_log.specs.Numbers.{number_at}
-use Rattle.pim_log.specs.Headers.{header_of, header_bytes_of, has_sizes, form_fault_of, counter_fault, fault_within, header_fault, end_of, used_of}
+use Rattle.pim_log.specs.Headers.{header_of, header_bytes_of, has_sizes, form_fault_of, counter_fault, fault_within}
+use Rattle.pim_log.specs.Headers.{header_fault, end_of, used_of}
 use Rattle.pim_log.specs.Events.{time_of, Says}
-use Rattle.pim_log.specs.Logs.{address_of, code_in, slot_at, fields_in, head_of, slots_of, number_in, mark_in, thread_in, slot_fault, IsNumbered, IsRepeated, AreSlots, IsLog, FailsAt, IsFault, IsRecord, ReadsAs}
+use Rattle.pim_log.specs.Logs.{address_of, code_in, slot_at, fields_in, head_of, slots_of, number_in, mark_in, thread_in}
+use Rattle.pim_log.specs.Logs.{slot_fault, IsNumbered, IsRepeated, AreSlots, IsLog, FailsAt, IsFault, IsRecord, ReadsAs}
 use Rattle.pim_log.specs.declared.header.Header.{Header}
 use Rattle.pim_log.specs.declared.header.TheConstants.{MAGIC, BYTE_ORDER, FIRST_VERSION, VERSION}
 use Rattle.pim_log.specs.declared.fields.Fields.{Fields}
