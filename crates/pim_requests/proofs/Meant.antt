@@ -13,8 +13,8 @@ use Rattle.pim_facts.specs.Naming.{AreBelow}
 use Rattle.pim_facts.specs.declared.places.Places.{Places}
 use Rattle.pim_facts.proofs.Meant.{up-to-end}
 use Rattle.pim_facts.proofs.Naming.{below-lacks}
-use Rattle.pim_requests.specs.Asked.{ArePutBy, IsBegunBy, IsIn, IsLater, IsPutBy}
-use Rattle.pim_requests.specs.Searching.{KnowsNames}
+use Rattle.pim_requests.specs.Asked.{ArePutBy, EndsWhole, IsBegunBy, IsIn, IsLater}
+use Rattle.pim_requests.specs.Searching.{IsPutBy, KnowsNames}
 use Rattle.pim_requests.proofs.Granting.{one-record}
 use Rattle.pim_requests.specs.declared.names.Names.{Names}
 use Rattle.pim_requests.specs.declared.waits.Wait.{Wait}
@@ -23,9 +23,15 @@ use Rattle.pim_requests.specs.declared.waits.Wait.{Wait}
 pub begun-by : (bytes : List ℕ) (n : ℕ) (time : Option ℕ) (until : ℕ) (wait : Wait) → time ≡ Some until → wait.from < until →
     IsPutBy bytes n time → IsBegunBy bytes n wait
 begun-by bytes n time until wait is lt put = elim put [
-  | inl end ↦ inl end
+  | inl end ↦ inl (subst (λ o. IfSome o (λ _. EndsWhole bytes n)) is end)
   | inr at ↦ inr (at.0, (at.1.0, (at.1.1.0, subst (λ o. IsLater o wait.from) (sym (at.1.1.1 ∙ is)) lt)))
 ]
+
+-- any time, at the end of a log that wasn't full
+pub ends-whole : (bytes : List ℕ) (n : ℕ) (time : Option ℕ) → n ≡ end_of (header_of bytes) →
+    IfSome time (λ _. (header_of bytes).lost ≡ 0) → IfSome time (λ _. EndsWhole bytes n)
+ends-whole bytes n None is whole = tt
+ends-whole bytes n (Some time) is whole = (is, whole)
 
 -- a later time
 pub put-later : (time : Option ℕ) (a b : ℕ) → a ≤ b → IfSome time (λ put. put ≤ a) → IfSome time (λ put. put ≤ b)
@@ -68,7 +74,7 @@ names-on bytes r old new log has later own reads names = record {
   are = (
     omega arith,
     (λ k slot from lt numbered. omega (arith, from, lt)),
-    record { slot = has.slot; numbered = has.numbered; is = has.is },
+    has,
     names.are,
   );
   knows = reads names.before names.knows;

@@ -3,14 +3,14 @@ use Rattle.std.specs.Prelude.{◌≡◌, ◌≢◌, ◌⊎◌, ◌<◌, ◌≤�
 use Rattle.std.specs.Prelude.{Bool, true, false, ◌||◌, IfSome, IsTrue, slice_get}
 use Rattle.std.specs.Option.{option_and_then}
 use Rattle.pim_log.specs.Headers.{header_of, end_of}
-use Rattle.pim_log.specs.Logs.{IsNumbered, IsRecord, began_of}
+use Rattle.pim_log.specs.Logs.{began_of}
 use Rattle.pim_log.specs.declared.event.Call.TheVariants as call
 use Rattle.pim_log.specs.declared.event.Event.{Event}
 use Rattle.pim_log.specs.declared.event.Event.TheVariants as event
 use Rattle.pim_log.specs.declared.record.Record.{Record}
 use Rattle.pim_facts.specs.Addresses.{Addresses, addresses_of, meant}
 use Rattle.pim_facts.specs.Levels.{id_of}
-use Rattle.pim_facts.specs.Naming.{AreBelow}
+use Rattle.pim_facts.specs.Naming.{AreBelow, IsAt}
 use Rattle.pim_facts.specs.declared.ids.Ids.{Ids}
 use Rattle.pim_facts.specs.declared.ids.LoggedMutex.{LoggedMutex}
 use Rattle.pim_facts.specs.declared.ids.LoggedThread.{LoggedThread}
@@ -18,10 +18,8 @@ use Rattle.pim_course.specs.declared.requests.Request.{Request}
 use Rattle.pim_requests.specs.declared.waits.Wait.{Wait}
 
 -- a log has this record
-pub record IsIn (bytes : List ℕ) (r : Record) : Type 0 where
-  pub slot : ℕ
-  pub numbered : IsNumbered bytes slot r.number
-  pub is : IsRecord bytes slot r
+abbrev pub IsIn : List ℕ → Record → Type 0
+IsIn bytes r = IsAt bytes r.number r
 
 -- a call ends with this event that may have waited: a lock that got its mutex, or a call whose time ran out, after some time
 abbrev pub MayHaveWaited : Event → Type 0
@@ -128,14 +126,13 @@ abbrev pub IsLater : Option ℕ → ℕ → Type 0
 IsLater (Some time) begin = begin < time
 IsLater None begin = ⊥
 
--- the record of a log with this number was put at this time, if that is known, or the log ends there
-abbrev pub IsPutBy : List ℕ → ℕ → Option ℕ → Type 0
-IsPutBy bytes number time = (number ≡ end_of (header_of bytes))
-    ⊎ ((r : Record) × (IsIn bytes r × ((r.number ≡ number) × (r.time ≡ time))))
+-- a log ends with this number, and wasn't full: it lost no record
+abbrev pub EndsWhole : List ℕ → ℕ → Type 0
+EndsWhole bytes number = (number ≡ end_of (header_of bytes)) × ((header_of bytes).lost ≡ 0)
 
--- the record of a log with this number was put after a wait began, or the log ends there
+-- the record of a log with this number was put after a wait began, or the log ends there and wasn't full
 abbrev pub IsBegunBy : List ℕ → ℕ → Wait → Type 0
-IsBegunBy bytes number wait = (number ≡ end_of (header_of bytes))
+IsBegunBy bytes number wait = EndsWhole bytes number
     ⊎ ((r : Record) × (IsIn bytes r × ((r.number ≡ number) × IsLater r.time wait.from)))
 
 -- the records of a log with numbers below one were put up to a time, as far as theirs are known
@@ -144,7 +141,7 @@ ArePutBy bytes number time =
     (r : Record) → IsIn bytes r → r.number < number → IfSome r.time (λ put. put ≤ time)
 
 -- a wait of a thread is for this mutex: the one that the thread's process means by the address, by the records before the
--- first one that was put after the wait began, or by all if none was
+-- first one that was put after the wait began, or by all if none was and the log wasn't full
 pub record IsWaitFor (bytes : List ℕ) (ids : Ids) (wait : Wait) (t m : ℕ) : Type 0 where
   pub number : ℕ
   pub begun : IsBegunBy bytes number wait

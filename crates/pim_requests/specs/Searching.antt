@@ -1,12 +1,12 @@
 -- What a search for requests has.
 use Rattle.std.specs.Prelude.{◌≡◌, ◌⊎◌, ◌<◌, ◌≤◌, ℕ, List, length, All, Contains, Option, Some, None, slice_get}
-use Rattle.std.specs.Prelude.{slice_index_or}
+use Rattle.std.specs.Prelude.{slice_index_or, IfSome}
 use Rattle.pim_log.specs.declared.record.Record.{Record}
 use Rattle.pim_facts.specs.Addresses.{KnowsPlaces, addresses_of}
 use Rattle.pim_facts.specs.Naming.{AreBelow}
 use Rattle.pim_facts.specs.declared.ids.Ids.{Ids}
 use Rattle.pim_course.specs.declared.requests.Request.{Request}
-use Rattle.pim_requests.specs.Asked.{ArePutBy, HasNext, HasWait, IsIn, IsNextOf}
+use Rattle.pim_requests.specs.Asked.{ArePutBy, EndsWhole, HasNext, HasWait, IsIn, IsNextOf}
 use Rattle.pim_requests.specs.declared.names.Names.{Names}
 use Rattle.pim_requests.specs.declared.waits.Asked.{Asked}
 use Rattle.pim_requests.specs.declared.waits.Pending.{Pending}
@@ -29,6 +29,12 @@ pub record KnowsNames (bytes : List ℕ) (number : ℕ) (names : Names) : Type 0
   pub are : AreBelow bytes number before
   pub knows : KnowsPlaces (addresses_of before) names.places
   pub latest : ArePutBy bytes number names.latest
+
+-- by the record of a log with this number a time is known, up to which waits began: that at which the record was put, if it
+-- says one; or any time if the log ends there and wasn't full
+abbrev pub IsPutBy : List ℕ → ℕ → Option ℕ → Type 0
+IsPutBy bytes number time = IfSome time (λ _. EndsWhole bytes number)
+    ⊎ ((r : Record) × (IsIn bytes r × ((r.number ≡ number) × (r.time ≡ time))))
 
 -- those records of a thread that are from one number on are from another one on
 abbrev pub IsNextFrom : List ℕ → ℕ → ℕ → ℕ → Type 0

@@ -13,10 +13,10 @@ ghost use Rattle.std.specs.Prelude.{◌≡◌, ◌≢◌, ◌+◌, ◌<◌, ◌�
 ghost use Rattle.std.specs.Prelude.{List, None, OnOk, Some, length, slice_get, slice_index_or, slice_set};
 ghost use Rattle.pim_log.specs.Headers.{end_of, header_of};
 ghost use Rattle.pim_log.specs.Logs.{IsLog};
-ghost use Rattle.pim_requests.specs.Asked.{HasWait, IsBegunBy, IsIn, IsOfWait, IsPutBy};
+ghost use Rattle.pim_requests.specs.Asked.{HasWait, IsBegunBy, IsIn, IsOfWait};
 ghost use Rattle.pim_requests.specs.Granting.{HasEnded};
-ghost use Rattle.pim_requests.specs.Searching.{AreOfWaits, IsNextFrom, IsPendingOf, KnowsEnds, KnowsNames, KnowsOpen};
-ghost use Rattle.pim_requests.specs.Searching.{KnowsWhere};
+ghost use Rattle.pim_requests.specs.Searching.{AreOfWaits, IsNextFrom, IsPendingOf, IsPutBy, KnowsEnds, KnowsNames};
+ghost use Rattle.pim_requests.specs.Searching.{KnowsOpen, KnowsWhere};
 
 use crate::names::Names;
 use pim_course::{Course, Request, Sources, Walk};
@@ -200,13 +200,7 @@ impl Search {
             names.read(&record, is_first)?;
             self.pass(sources, walk, &record)?;
         }
-        // If the log was full, what happened behind its end isn't known.
-        let last = if log.header().lost == 0 {
-            Some(u64::MAX)
-        } else {
-            None
-        };
-        self.begin(names, sources, &mut walk.course, end, last)
+        self.begin(names, sources, &mut walk.course, end, last_time(log))
     }
 
     /// Lets those waits begin that are earlier than this time, if the record with this number has it.
@@ -505,6 +499,18 @@ impl Pending {
             Some(before) => Place::Behind(before),
             None => otherwise,
         }
+    }
+}
+
+/// Returns a time before which all waits began that belong before the end of a log. If it was full there is none, as it isn't
+/// known then what happened behind its end.
+fn last_time(log: &Log) -> Option<u64>
+    ensures { IfSome result (λ _. (header_of log.now).lost ≡ 0) }
+{
+    if log.header().lost == 0 {
+        Some(u64::MAX)
+    } else {
+        None
     }
 }
 

@@ -1,6 +1,5 @@
 use Rattle.std.proofs.Common.{ℕ, List}
-use Rattle.pim_requests.specs.Asked.{IsPutBy}
-use Rattle.pim_requests.specs.Searching.{AreOfWaits, KnowsNames, KnowsWhere}
+use Rattle.pim_requests.specs.Searching.{AreOfWaits, IsPutBy, KnowsNames, KnowsWhere}
 use Rattle.pim_requests.specs.declared.waits.Wait.{Wait}
 use Rattle.pim_requests.proofs.waits.Search.begin.Given as goal
 

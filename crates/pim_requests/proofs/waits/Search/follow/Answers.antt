@@ -4,7 +4,7 @@ use Rattle.pim_log.specs.Headers.{end_of, header_of}
 use Rattle.pim_log.specs.Logs.{IsLog}
 use Rattle.pim_requests.specs.Searching.{AreOfWaits, KnowsNames, KnowsWhere}
 use Rattle.pim_requests.specs.declared.waits.Wait.{Wait}
-use Rattle.pim_requests.proofs.Meant.{names-end, names-past}
+use Rattle.pim_requests.proofs.Meant.{ends-whole, names-end, names-past}
 use Rattle.pim_requests.proofs.Placing.{places-end, places-past}
 use Rattle.pim_requests.proofs.Showing.{is-in, number-is}
 use Rattle.pim_requests.proofs.waits.Search.follow.Goals as goal
@@ -49,7 +49,9 @@ returns-clause-waits c = λ waits log are names.
     let bytes = c.args.log.now in
     let same : c.end-end.result ≡ end_of (header_of bytes) = c.end-end.ensures ∙ ap end_of c.header.ensures in
     let low : end_of (header_of bytes) ≤ c.loop-number.number = omega (arith, same, c.loop-number-test.false) in
-    c.begin-2.ensures.waits bytes waits (inl same) (c.loop-number.invariant.waits waits log are names)
+    c.begin-2.ensures.waits bytes waits
+    (inl (ends-whole bytes c.end-end.result c.last_time.result same c.last_time.ensures))
+    (c.loop-number.invariant.waits waits log are names)
     (names-end bytes c.loop-number.number c.end-end.result c.loop-number.names low same (c.loop-number.invariant.names log names))
 
 pub returns-clause-places : goal.returns-clause-places
