@@ -201,7 +201,7 @@ all-raised sources course release old new m n k sound all levels whole ceilings 
     all-effective (before_at sources course release old) new release.mutex sound (λ t mutex counts a.
     let q = waits-queued old mutex t k a in
     let lt = q.queued.1 in
-    let listed = (k.awaited mutex).1 (omega arith) in
+    let listed = (k.awaited.1 mutex).1 (omega arith) in
     let place : listed.0 < m = let within = listed.1 in omega arith in
     let is : get_or old.queues.awaited.items listed.0 0 ≡ mutex =
     get_or_default old.queues.awaited.items listed.0 0 mutex listed.1 ∙ listed.2 in

@@ -3,14 +3,16 @@ use Rattle.std.proofs.Common.{◌≡◌, ◌≢◌, ◌⊎◌, ℕ, zero, suc, �
 use Rattle.std.proofs.Common.{[], ◌∷◌, ◌++◌, length, get_or, Some, None, Contains, refl, sym, ap, ◌∙◌, subst, inl, inr}
 use Rattle.std.proofs.Common.{arith, eq-eqb, get_or-set_other, get_or-set_same}
 use Rattle.std.proofs.Math.ListN.{set, length-set}
-use Rattle.std.specs.Prelude.{Vec, slice_get}
+use Rattle.std.specs.Prelude.{AllPairs, Vec, slice_get}
 use Rattle.std.specs.Global.{Global}
 use Rattle.std.specs.List.{filter, list_any}
 use Rattle.std.specs.Option.{option_map_or}
-use Rattle.std.proofs.lemmas.Bool.{false≢true, true≢false, ne_eqb, cases_eq, cases_lt}
-use Rattle.std.proofs.lemmas.List.{length-append}
+use Rattle.std.proofs.lemmas.Bool.{false≢true, true≢false, ne_eqb, cases_eq}
+use Rattle.std.proofs.lemmas.List.{get_or_default, length-append}
 use Rattle.std.proofs.lemmas.Option.{none-some, same_Some, slice_get_within}
 use Rattle.std.proofs.lemmas.List.Elements.{Contains-append_left, Contains-append_right, Contains-push, Contains-push_cases}
+use Rattle.std.proofs.lemmas.List.Kept.{AllPairs-filter}
+use Rattle.std.proofs.lemmas.List.Quantifiers.{all_pairs_push}
 use Rattle.pim_findings.specs.declared.waiting.Open.{Open}
 use Rattle.pim_findings.specs.declared.queues.Queued.{Queued}
 use Rattle.pim_findings.specs.declared.queues.Queues.{Queues}
@@ -129,57 +131,123 @@ queue-changed old new m before after by got is does one = elim (cases_eq one m) 
 
 -- ---- the mutexes for which threads wait
 
--- a wait more, whose mutex is listed
+-- a wait more: its mutex is added to the list, if no thread waited for it
 pub listed-joined : (old new : Queues) (wait : Queued) →
     ((m : ℕ) → queue_of new m ≡ cond (m == wait.mutex) (queue_of old m ++ wait ∷ []) (queue_of old m)) →
-    ((m : ℕ) → Contains old.awaited.items m → Contains new.awaited.items m) →
-    (length (queue_of old wait.mutex) ≡ 0 → Contains new.awaited.items wait.mutex) →
-    ((m : ℕ) → Contains new.awaited.items m → Contains old.awaited.items m ⊎ (m ≡ wait.mutex)) →
+    ((length (queue_of old wait.mutex) ≡ 0) × (new.awaited.items ≡ old.awaited.items ++ wait.mutex ∷ []))
+    ⊎ ((0 < length (queue_of old wait.mutex)) × (new.awaited.items ≡ old.awaited.items)) →
     ListsAwaited old → ListsAwaited new
-listed-joined old new wait queues kept first only lists m = (waits, listed)
+listed-joined old new wait queues awaited lists = (once, λ m. (waits m, listed m))
   where
-    own : m ≡ wait.mutex → queue_of new m ≡ queue_of old m ++ wait ∷ []
-    own same = queues m ∙ ap (λ b. cond b (queue_of old m ++ wait ∷ []) (queue_of old m)) (eq-eqb m wait.mutex same)
+    own : (m : ℕ) → m ≡ wait.mutex → queue_of new m ≡ queue_of old m ++ wait ∷ []
+    own m same = queues m ∙ ap (λ b. cond b (queue_of old m ++ wait ∷ []) (queue_of old m)) (eq-eqb m wait.mutex same)
 
-    other : m ≢ wait.mutex → queue_of new m ≡ queue_of old m
-    other ne = queues m ∙ ap (λ b. cond b (queue_of old m ++ wait ∷ []) (queue_of old m)) (ne_eqb m wait.mutex ne)
+    other : (m : ℕ) → m ≢ wait.mutex → queue_of new m ≡ queue_of old m
+    other m ne = queues m ∙ ap (λ b. cond b (queue_of old m ++ wait ∷ []) (queue_of old m)) (ne_eqb m wait.mutex ne)
 
-    waits : Contains new.awaited.items m → 0 < length (queue_of new m)
-    waits h = elim (cases_eq m wait.mutex) [
+    kept : (m : ℕ) → Contains old.awaited.items m → Contains new.awaited.items m
+    kept m h = elim awaited [
+      | inl first ↦ subst (λ l. Contains l m) (sym first.1) (Contains-append_left old.awaited.items (wait.mutex ∷ []) m h)
+      | inr further ↦ subst (λ l. Contains l m) (sym further.1) h
+    ]
+
+    own-listed : Contains new.awaited.items wait.mutex
+    own-listed = elim awaited [
+      | inl first ↦ subst (λ l. Contains l wait.mutex) (sym first.1) (Contains-push old.awaited.items wait.mutex)
+      | inr further ↦ kept wait.mutex ((lists.1 wait.mutex).1 further.0)
+    ]
+
+    before : (m : ℕ) → m ≢ wait.mutex → Contains new.awaited.items m → Contains old.awaited.items m
+    before m ne h = elim awaited [
+      | inl first ↦
+          elim (Contains-push_cases old.awaited.items wait.mutex m (subst (λ l. Contains l m) first.1 h)) [
+            | inl is ↦ is
+            | inr same ↦ absurd (ne (sym same))
+          ]
+      | inr further ↦ subst (λ l. Contains l m) further.1 h
+    ]
+
+    once : AllPairs (λ one other. one ≢ other) new.awaited.items
+    once = elim awaited [
+      | inl first ↦
+          subst (AllPairs (λ one other. one ≢ other)) (sym first.1)
+          (all_pairs_push (λ one other. one ≢ other) old.awaited.items wait.mutex lists.0
+          (λ k d lt same.
+          let listed : Contains old.awaited.items wait.mutex =
+          (k, lt, get_or_default old.awaited.items k wait.mutex d lt ∙ same) in
+          let some = (lists.1 wait.mutex).0 listed in
+          absurd (omega (arith, first.0, some))))
+      | inr further ↦ subst (AllPairs (λ one other. one ≢ other)) (sym further.1) lists.0
+    ]
+
+    waits : (m : ℕ) → Contains new.awaited.items m → 0 < length (queue_of new m)
+    waits m h = elim (cases_eq m wait.mutex) [
       | inl same ↦
-          subst (λ l. 0 < length l) (sym (own same)) (omega (arith, length-append (queue_of old m) (wait ∷ [])))
-      | inr ne ↦ subst (λ l. 0 < length l) (sym (other ne)) ((lists m).0 (elim (only m h) [
-        | inl before ↦ before
-        | inr same ↦ absurd (ne same)
-      ]))
+          subst (λ l. 0 < length l) (sym (own m same)) (omega (arith, length-append (queue_of old m) (wait ∷ [])))
+      | inr ne ↦ subst (λ l. 0 < length l) (sym (other m ne)) ((lists.1 m).0 (before m ne h))
     ]
 
-    listed : 0 < length (queue_of new m) → Contains new.awaited.items m
-    listed some = elim (cases_eq m wait.mutex) [
-      | inl same ↦ subst (Contains new.awaited.items) (sym same) (elim (cases_lt 0 (length (queue_of old wait.mutex))) [
-        | inl others ↦ kept wait.mutex ((lists wait.mutex).1 others)
-        | inr none ↦ first (omega (arith, none))
-      ])
-      | inr ne ↦ kept m ((lists m).1 (subst (λ l. 0 < length l) (other ne) some))
+    listed : (m : ℕ) → 0 < length (queue_of new m) → Contains new.awaited.items m
+    listed m some = elim (cases_eq m wait.mutex) [
+      | inl same ↦ subst (Contains new.awaited.items) (sym same) own-listed
+      | inr ne ↦ kept m ((lists.1 m).1 (subst (λ l. 0 < length l) (other m ne) some))
     ]
 
--- a wait less; a mutex is listed no more for which there is none left
+-- another one stays listed
+listed-other : (awaited : List ℕ) (mutex m : ℕ) → m ≢ mutex → Contains awaited m →
+    Contains (filter (λ other. not (other == mutex)) awaited) m
+listed-other awaited mutex m ne h = contains-filter (λ other. not (other == mutex)) awaited m (ap not (ne_eqb m mutex ne)) h
+
+-- a wait less: its mutex is removed from the list, if there is none left
 pub listed-left : (old new : Queues) (mutex thread : ℕ) →
     ((m : ℕ) → queue_of new m ≡
     cond (m == mutex) (filter (λ wait. not (wait.thread == thread)) (queue_of old m)) (queue_of old m)) →
-    ((m : ℕ) → 0 < length (queue_of new m) → Contains old.awaited.items m → Contains new.awaited.items m) →
-    ((m : ℕ) → Contains new.awaited.items m → Contains old.awaited.items m) →
-    (Contains new.awaited.items mutex → 0 < length (queue_of new mutex)) → ListsAwaited old → ListsAwaited new
-listed-left old new mutex thread queues kept only last lists m = (waits, listed)
+    ((length (queue_of new mutex) ≡ 0) × (new.awaited.items ≡ filter (λ other. not (other == mutex)) old.awaited.items))
+    ⊎ ((0 < length (queue_of new mutex)) × (new.awaited.items ≡ old.awaited.items)) →
+    ListsAwaited old → ListsAwaited new
+listed-left old new mutex thread queues awaited lists = (once, λ m. (waits m, listed m))
   where
-    waits : Contains new.awaited.items m → 0 < length (queue_of new m)
-    waits h = elim (cases_eq m mutex) [
+    only : (m : ℕ) → Contains new.awaited.items m → Contains old.awaited.items m
+    only m h = elim awaited [
+      | inl none ↦
+          (from-filter (λ other. not (other == mutex)) old.awaited.items m (subst (λ l. Contains l m) none.1 h)).0
+      | inr left ↦ subst (λ l. Contains l m) left.1 h
+    ]
+
+    last : Contains new.awaited.items mutex → 0 < length (queue_of new mutex)
+    last h = elim awaited [
+      | inl none ↦
+          let is = from-filter (λ other. not (other == mutex)) old.awaited.items mutex
+          (subst (λ l. Contains l mutex) none.1 h) in
+          absurd (true≢false (sym is.1 ∙ ap not (eq-eqb mutex mutex refl)))
+      | inr left ↦ left.0
+    ]
+
+    kept : (m : ℕ) → 0 < length (queue_of new m) → Contains old.awaited.items m → Contains new.awaited.items m
+    kept m some h = elim awaited [
+      | inl none ↦
+          subst (λ l. Contains l m) (sym none.1)
+          (listed-other old.awaited.items mutex m
+          (λ e. let here = subst (λ one. 0 < length (queue_of new one)) e some in absurd (omega (arith, here, none.0))) h)
+      | inr left ↦ subst (λ l. Contains l m) (sym left.1) h
+    ]
+
+    once : AllPairs (λ one other. one ≢ other) new.awaited.items
+    once = elim awaited [
+      | inl none ↦
+          subst (AllPairs (λ one other. one ≢ other)) (sym none.1)
+          (AllPairs-filter (λ one other. one ≢ other) (λ other. not (other == mutex)) old.awaited.items lists.0)
+      | inr left ↦ subst (AllPairs (λ one other. one ≢ other)) (sym left.1) lists.0
+    ]
+
+    waits : (m : ℕ) → Contains new.awaited.items m → 0 < length (queue_of new m)
+    waits m h = elim (cases_eq m mutex) [
       | inl same ↦ subst (λ one. 0 < length (queue_of new one)) (sym same) (last (subst (Contains new.awaited.items) same h))
       | inr ne ↦
           let list : queue_of new m ≡ queue_of old m =
           queues m ∙ ap (λ b. cond b (filter (λ wait. not (wait.thread == thread)) (queue_of old m)) (queue_of old m))
           (ne_eqb m mutex ne) in
-          subst (λ l. 0 < length l) (sym list) ((lists m).0 (only m h))
+          subst (λ l. 0 < length l) (sym list) ((lists.1 m).0 (only m h))
     ]
 
     no-more : (xs : List Queued) → length (filter (λ (wait : Queued). not (wait.thread == thread)) xs) ≤ length xs
@@ -192,19 +260,14 @@ listed-left old new mutex thread queues kept only last lists m = (waits, listed)
         go true rest = omega (arith, rest)
         go false rest = omega (arith, rest)
 
-    fewer : (b : Bool) →
+    fewer : (m : ℕ) (b : Bool) →
         0 < length (cond b (filter (λ (wait : Queued). not (wait.thread == thread)) (queue_of old m)) (queue_of old m)) →
         0 < length (queue_of old m)
-    fewer true h = let le = no-more (queue_of old m) in omega (arith, h, le)
-    fewer false h = h
+    fewer m true h = let le = no-more (queue_of old m) in omega (arith, h, le)
+    fewer m false h = h
 
-    listed : 0 < length (queue_of new m) → Contains new.awaited.items m
-    listed some = kept m some ((lists m).1 (fewer (m == mutex) (subst (λ l. 0 < length l) (queues m) some)))
-
--- another one stays listed
-pub listed-other : (awaited : List ℕ) (mutex m : ℕ) → m ≢ mutex → Contains awaited m →
-    Contains (filter (λ other. not (other == mutex)) awaited) m
-listed-other awaited mutex m ne h = contains-filter (λ other. not (other == mutex)) awaited m (ap not (ne_eqb m mutex ne)) h
+    listed : (m : ℕ) → 0 < length (queue_of new m) → Contains new.awaited.items m
+    listed m some = kept m some ((lists.1 m).1 (fewer m (m == mutex) (subst (λ l. 0 < length l) (queues m) some)))
 
 -- ---- the queues after a wait begins or ends
 

@@ -1,6 +1,6 @@
 -- How the waits that last are kept.
-use Rattle.std.specs.Prelude.{◌≡◌, ◌⊎◌, ℕ, ◌<◌, ◌≤◌, ◌==◌, ◌&&◌, ◌||◌, nat_lt, Bool, List, [], length, slice_get}
-use Rattle.std.specs.Prelude.{slice_index_or, Option, Some, None, Contains, ◌↔◌, IsTrue, Vec}
+use Rattle.std.specs.Prelude.{◌≡◌, ◌≢◌, ◌⊎◌, ℕ, ◌<◌, ◌≤◌, ◌==◌, ◌&&◌, ◌||◌, nat_lt, Bool, List, [], length, slice_get}
+use Rattle.std.specs.Prelude.{slice_index_or, Option, Some, None, AllPairs, Contains, ◌↔◌, IsTrue, Vec}
 use Rattle.std.specs.Global.{Global}
 use Rattle.std.specs.List.{list_any}
 use Rattle.std.specs.Option.{option_map, option_map_or}
@@ -30,12 +30,13 @@ queue_in lists mutex = option_map_or (λ (list : Vec Queued Global). list.items)
 abbrev pub queue_of : Queues → ℕ → List Queued
 queue_of queues mutex = queue_in queues.lists.items mutex
 
--- a mutex is listed exactly if a thread waits for it
+-- the mutexes for which threads wait are listed, each once, and no others
 abbrev pub ListsAwaited : Queues → Type 0
-ListsAwaited queues = (mutex : ℕ) → Contains queues.awaited.items mutex ↔ (0 < length (queue_of queues mutex))
+ListsAwaited queues = AllPairs (λ one other. one ≢ other) queues.awaited.items
+    × ((mutex : ℕ) → Contains queues.awaited.items mutex ↔ (0 < length (queue_of queues mutex)))
 
 -- The waits that last are in the queues of their mutexes, and no others are in any. The mutexes are listed for which threads
--- wait, and no others, and there is a place for the level of each thread.
+-- wait, each once, and no others, and there is a place for the level of each thread.
 pub record KeepsQueue (waiting : Waiting) : Type 0 where
   pub exactly : (mutex : ℕ) (wait : Queued) → Contains (queue_of waiting.queues mutex) wait ↔
       ((wait.mutex ≡ mutex) × (queued_at waiting wait.thread ≡ Some wait))

@@ -20,7 +20,7 @@ pub(crate) struct Queued {
 pub(crate) struct Queues {
     /// Those for each mutex, up to the last one for which a thread waited, in the order in which they began.
     lists: Vec<Vec<Queued>>,
-    /// The mutexes for which threads wait.
+    /// The mutexes for which threads wait, each once.
     pub awaited: Vec<u32>,
 }
 

@@ -41,7 +41,7 @@ loop-place-preserved c =
 pub returns-clause-lowest : goal.returns-clause-lowest
 returns-clause-lowest c = λ k mutex wait h.
     let some : 0 < length (queue_of c.args.self.now.queues mutex) = let lt = h.1 in omega arith in
-    let listed = (k.awaited mutex).1 some in
+    let listed = (k.awaited.1 mutex).1 some in
     let place : listed.0 < c.loop-place.place =
     let within = listed.1 in omega (arith, c.loop-place-test.false, c.len-place-end.ensures) in
     let is : get_or c.args.self.now.queues.awaited.items listed.0 0 ≡ mutex =
