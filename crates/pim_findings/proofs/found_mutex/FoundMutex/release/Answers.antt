@@ -1,7 +1,8 @@
 use Rattle.std.proofs.Common.{◌≡◌, ◌<◌, ◌≤◌, ◌-◌, ◌∙◌, Some, unwrap_or, ap, sym, subst, arith}
 use Rattle.pim_findings.specs.Ownerships.{IsLongest, and_since}
 use Rattle.pim_findings.proofs.Owning.{lasted_of, owned, released-longer, released-stays}
-use Rattle.pim_findings.proofs.found_mutex.FoundMutex.release.Goals.{in-Some, in-None, then-lasted-longest, else-lasted-longest}
+use Rattle.pim_findings.proofs.found_mutex.FoundMutex.release.Goals.{in-Some, in-None, then-lasted-longest}
+use Rattle.pim_findings.proofs.found_mutex.FoundMutex.release.Goals.{else-lasted-longest}
 use Rattle.pim_findings.proofs.found_mutex.FoundMutex.release.Goals as goal
 
 pub returns-clause-longest : goal.returns-clause-longest

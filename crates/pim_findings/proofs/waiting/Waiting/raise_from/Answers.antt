@@ -4,7 +4,8 @@ use Rattle.std.proofs.lemmas.Bool.{both_ways, cases_lt}
 use Rattle.pim_findings.specs.declared.waiting.Waiting.{Waiting}
 use Rattle.pim_findings.specs.Levels.{heir_by}
 use Rattle.pim_findings.specs.Queue.{before_at, level_at}
-use Rattle.pim_findings.proofs.Raising.{none-lower, raised-as, raised-high, raised-last, raising-begun, raising-more, waits-inside}
+use Rattle.pim_findings.proofs.Raising.{none-lower, raised-as, raised-high, raised-last, raising-begun, raising-more}
+use Rattle.pim_findings.proofs.Raising.{waits-inside}
 use Rattle.pim_findings.proofs.waiting.Waiting.raise_from.Goals as goal
 
 pub loop-hop-init : goal.loop-hop-init
