@@ -149,7 +149,7 @@ impl Names {
         if from.piece == 0 {
             return Ok(false);
         }
-        let mut label = text_of(alloc, name)?;
+        let mut label = String::from_str(alloc, name)?;
         write!(label, "[{kernel}]")?;
         let thread = Thread {
             task: number,
@@ -172,7 +172,7 @@ impl Names {
         if from.piece == 0 {
             return Ok(false);
         }
-        let label = text_of(alloc, place)?;
+        let label = String::from_str(alloc, place)?;
         self.mutexes.add(alloc, number, from, label)?;
         Ok(true)
     }
@@ -217,7 +217,7 @@ impl<'a> Piece<'a> {
 }
 
 /// Returns the number of a task, that of its thread in the kernel, and the thread's name.
-fn thread_of<'a>(words: &mut Words<'a>) -> Option<(u16, u64, &'a [u8])> {
+fn thread_of<'a>(words: &mut Words<'a>) -> Option<(u16, u64, &'a str)> {
     let (Some(number), Some(numbers)) = (trace_number(words), words.next()) else {
         return None;
     };
@@ -228,7 +228,7 @@ fn thread_of<'a>(words: &mut Words<'a>) -> Option<(u16, u64, &'a [u8])> {
 }
 
 /// Returns the number of a mutex, and where it was initialised.
-fn mutex_of<'a>(words: &mut Words<'a>) -> Option<(u16, &'a [u8])> {
+fn mutex_of<'a>(words: &mut Words<'a>) -> Option<(u16, &'a str)> {
     let (Some(number), Some(protocol)) = (trace_number(words), words.next()) else {
         return None;
     };
@@ -244,10 +244,14 @@ fn mutex_of<'a>(words: &mut Words<'a>) -> Option<(u16, &'a [u8])> {
 }
 
 /// Returns the next word, if it is the last one of the line and a name: only letters, digits and signs of ASCII.
-fn last_name<'a>(words: &mut Words<'a>) -> Option<&'a [u8]> {
+fn last_name<'a>(words: &mut Words<'a>) -> Option<&'a str> {
     let name = words.next()?;
     let is_name = words.is_done() && name.iter().all(|byte| byte.is_ascii_graphic());
-    if is_name { Some(name) } else { None }
+    if is_name {
+        std::str::from_utf8(name).ok()
+    } else {
+        None
+    }
 }
 
 /// Returns the number of a task or mutex that the next word spells.
@@ -256,15 +260,4 @@ fn trace_number(words: &mut Words) -> Option<u16> {
         number if 1 <= number && number <= NUMBERS => Some(number as u16),
         _ => None,
     }
-}
-
-/// Returns a name as text.
-fn text_of(alloc: Global, name: &[u8]) -> Result<String, AllocError> {
-    let mut text = String::new(alloc);
-    for byte in name {
-        if byte.is_ascii() {
-            text.push(*byte as char)?;
-        }
-    }
-    Ok(text)
 }
