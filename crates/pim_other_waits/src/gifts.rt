@@ -67,8 +67,10 @@ impl Gifts {
             (if same_awaited given awaited && not (last.thread == t) then Some last else gift_in self.old awaited t)) }
     {
         let other = self.not_by(&given, last.thread);
-        self.last.insert(given, LastGifts { last, other })?;
-        Ok(())
+        match self.last.insert(given, LastGifts { last, other }) {
+            Ok(_) => Ok(()),
+            Err(_) => Err(AllocError),
+        }
     }
 }
 

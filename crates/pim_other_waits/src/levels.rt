@@ -58,7 +58,9 @@ impl Levels {
     fn put(&mut self, thread: u32, level: u8) -> Result<(), AllocError>
         ensures { IfOk result (λ _. (ids : Ids) (t : ℕ) → level_in self.new ids t ≡ (if thread == t then level else level_in self.old ids t)) }
     {
-        self.known.insert(thread, level)?;
-        Ok(())
+        match self.known.insert(thread, level) {
+            Ok(_) => Ok(()),
+            Err(_) => Err(AllocError),
+        }
     }
 }

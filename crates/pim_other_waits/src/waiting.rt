@@ -59,15 +59,14 @@ impl Waiting {
     fn put(&mut self, thread: usize, wait: Option<OtherWait>) -> Result<(), AllocError>
         ensures { IfOk result (λ _. (t : ℕ) → wait_in self.new t ≡ (if thread == t then wait else wait_in self.old t)) }
     {
-        match wait {
-            Some(wait) => {
-                self.open.insert(thread, wait)?;
-            }
-            None => {
-                let _before = self.open.remove(&thread);
-            }
+        let Some(wait) = wait else {
+            let _before = self.open.remove(&thread);
+            return Ok(());
+        };
+        match self.open.insert(thread, wait) {
+            Ok(_) => Ok(()),
+            Err(_) => Err(AllocError),
         }
-        Ok(())
     }
 }
 
@@ -75,11 +74,9 @@ impl Waiting {
 fn if_lasts(turn: &Turn, wait: Option<OtherWait>) -> Option<OtherWait>
     ensures { result ≡ if_lasts turn.now wait }
 {
-    let wait = wait?;
-    if turn.lets_last(wait.awaited.kind == ObjectKind::Condition) {
-        Some(wait)
-    } else {
-        None
+    match wait {
+        Some(wait) if turn.lets_last(wait.awaited.kind == ObjectKind::Condition) => Some(wait),
+        _ => None,
     }
 }
 
