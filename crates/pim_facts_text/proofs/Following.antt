@@ -1,13 +1,11 @@
 -- One line more, and the first invalid one.
 use Rattle.std.proofs.lemmas.Grind.{common_steps}
 use Rattle.std.proofs.Common.{◌≡◌, ℕ, ◌+◌, ◌-◌, List, [], ◌∷◌, ◌++◌, take, length, length-append, append_assoc}
-use Rattle.std.proofs.Common.{arith, refl, sym, ap, ◌∙◌, subst, inl, inr, codes, Bool, true, false, is_some}
+use Rattle.std.proofs.Common.{arith, refl, sym, ap, ◌∙◌, subst, inr, codes, Bool, true, false, is_some}
 use Rattle.std.proofs.Common.{Option, Some, None, MatchOption}
-use Rattle.std.proofs.lemmas.List.{append-nil}
-use Rattle.std.specs.Option.{option_map}
 use Rattle.pim_facts_text.specs.Words.{is_word}
 use Rattle.pim_facts_text.specs.Lines.{given}
-use Rattle.pim_facts_text.specs.Texts.{Course, beginning, go_on, follow, course_of, IsText, IsFirstInvalid, Says}
+use Rattle.pim_facts_text.specs.Texts.{Course, beginning, go_on, follow, course_of, IsText, IsFirstInvalid}
 
 -- ---- one line more
 
@@ -109,28 +107,6 @@ pub begins :
     → Halfway all rest course 1
 begins all first rest course e is new =
     record { done = first ∷ []; whole = e; made = rw is (ap (λ c. Some c) (sym new)); many = omega arith }
-
--- no lines are no text, and a line that isn't the version begins none
-pub no_line : (all : List (List ℕ)) → all ≡ [] → IsFirstInvalid all 1
-no_line all e = (inl refl, omega arith, no_text (take 1 all) (ap (λ ls. course_of (take 1 ls)) e))
-
-pub no_version :
-    (all : List (List ℕ)) (first : List ℕ) (rest : List (List ℕ))
-    → all ≡ first ∷ rest
-    → is_word first (codes "facts 1") ≡ false
-    → IsFirstInvalid all 1
-no_version all first rest e other =
-    (inl refl, omega arith, no_text (take 1 all) (ap (λ ls. course_of (take 1 ls)) e ∙ rw other refl))
-
--- all lines are read
-pub says_all :
-    {all left : List (List ℕ)} {course : Course} {count : ℕ}
-    → left ≡ []
-    → Halfway all left course count
-    → Says all course.content
-says_all {all} {left} {course} {count} none half =
-    let whole : all ≡ half.done = half.whole ∙ ap (λ ls. half.done ++ ls) none ∙ append-nil half.done in
-    ap (λ ls. option_map (λ c. c.content) (course_of ls)) whole ∙ ap (λ o. option_map (λ c. c.content) o) half.made
 
 -- ---- whether a line was taken
 

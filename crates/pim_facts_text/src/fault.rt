@@ -45,10 +45,9 @@ pub enum Why {
     NoCeiling,
 }
 
-impl Why {
-    /// Returns it as a user reads it.
-    fn message(self) -> &'static str {
-        match self {
+impl fmt::Display for Why {
+    fn fmt<W: fmt::Write>(&self, f: &mut fmt::Formatter<W>) -> fmt::Result {
+        f.write_str(match self {
             Why::Header => "the first line is: facts 1",
             Why::Begin => "a line begins with thread, mutex, or a time in nanoseconds",
             Why::Thread =>
@@ -69,13 +68,7 @@ impl Why {
             Why::NotWaiting => "its thread doesn't wait for its mutex",
             Why::NotOwner => "its thread doesn't own its mutex",
             Why::NoCeiling => "its mutex isn't a protect one",
-        }
-    }
-}
-
-impl fmt::Display for Why {
-    fn fmt<W: fmt::Write>(&self, f: &mut fmt::Formatter<W>) -> fmt::Result {
-        f.write_str(self.message())
+        })
     }
 }
 
