@@ -50,36 +50,33 @@ pub fn read_line(line: &[u8], number: u64, version: u64) -> Option<Line<'_>> {
     if kind == b"name".as_slice() {
         return read_name(&mut words, time);
     }
-    let what = what_of(kind_of(kind, version)?, &mut words)?;
-    if !words.is_done() {
-        return None;
+    match what_of(kind_of(kind, version)?, &mut words) {
+        Some(what) if words.is_done() => Some(Line::Event(Event {
+            line: number,
+            time,
+            cpu,
+            task,
+            what,
+        })),
+        _ => None,
     }
-    Some(Line::Event(Event {
-        line: number,
-        time,
-        cpu,
-        task,
-        what,
-    }))
 }
 
 fn read_end<'a>(words: &mut Words<'a>) -> Option<Line<'a>> {
-    let time = words.number()?;
-    let events = words.number()?;
-    let lost = words.number()?;
-    if !words.is_done() {
+    let (Some(time), Some(events)) = (words.number(), words.number()) else {
         return None;
+    };
+    match words.number() {
+        Some(lost) if words.is_done() => Some(Line::End(End { time, events, lost })),
+        _ => None,
     }
-    Some(Line::End(End { time, events, lost }))
 }
 
 fn read_name<'a>(words: &mut Words<'a>, time: u64) -> Option<Line<'a>> {
-    let task = words.small()?;
-    let name = words.next()?;
-    if !words.is_done() {
-        return None;
+    match (words.small(), words.next()) {
+        (Some(task), Some(name)) if words.is_done() => Some(Line::Name(Name { time, task, name })),
+        _ => None,
     }
-    Some(Line::Name(Name { time, task, name }))
 }
 
 /// What a word says that happened.
@@ -132,7 +129,7 @@ fn what_of(kind: Kind, words: &mut Words) -> Option<What> {
         Kind::Switch => switch_of(words),
         Kind::Boost => boost_of(words),
         Kind::Call(call) => call_of(call, words),
-        Kind::Return => Some(What::Return(answer_of(words.next()?)?)),
+        Kind::Return => return_of(words),
         Kind::Wake => Some(What::Wake(words.small()?)),
         Kind::Lost => loss_of(words),
     }
@@ -149,12 +146,16 @@ fn switch_of(words: &mut Words) -> Option<What> {
     let (Some(level), Some(state)) = (level_in(words), words.next()) else {
         return None;
     };
-    let (Some(next), Some(next_level)) = (words.small(), level_in(words)) else {
+    let (Some(is_asleep), Some(next), Some(next_level)) = (
+        is_asleep_in(state),
+        words.small(),
+        level_in(words),
+    ) else {
         return None;
     };
     Some(What::Switch(Switch {
         level,
-        is_asleep: is_asleep_in(state)?,
+        is_asleep,
         is_blocked: matches!(state, [b'S' | b'D']),
         has_ended: matches!(state, [b'X' | b'Z']),
         next,
@@ -171,15 +172,18 @@ fn is_asleep_in(state: &[u8]) -> Option<bool> {
         b"R" | b"R+" => Some(false),
         [letter] if STOPPED.contains(letter) => Some(true),
         [letter, b'+'] if STOPPED.contains(letter) => Some(false),
-        _ => address_of(state).map(|_bits| true),
+        _ => match address_of(state) {
+            Some(_bits) => Some(true),
+            None => None,
+        },
     }
 }
 
 fn boost_of(words: &mut Words) -> Option<What> {
-    let (Some(task), Some(before)) = (words.small(), level_in(words)) else {
+    let (Some(task), Some(before), Some(after)) = (words.small(), level_in(words), level_in(words))
+    else {
         return None;
     };
-    let after = level_in(words)?;
     Some(What::Boost(Boost {
         task,
         before,
@@ -206,17 +210,18 @@ fn call_of(call: FutexCall, words: &mut Words) -> Option<What> {
     })
 }
 
-/// Returns what a call returned, by its result: -110 is ETIMEDOUT, and -11 EAGAIN.
-fn answer_of(word: &[u8]) -> Option<Answer> {
+/// Returns that a call returned, and what, by its result: -110 is ETIMEDOUT, and -11 EAGAIN.
+fn return_of(words: &mut Words) -> Option<What> {
+    let word = words.next()?;
     let [b'-', error @ ..] = word else {
         let _count = number_of(word)?;
-        return Some(Answer::Success);
+        return Some(What::Return(Answer::Success));
     };
-    Some(match number_of(error)? {
+    Some(What::Return(match number_of(error)? {
         110 => Answer::TimedOut,
         11 => Answer::Changed,
         _ => Answer::Failed,
-    })
+    }))
 }
 
 /// Returns the level of the kernel's priority that the next word spells: -1 to 140, of which a lower one is higher.
@@ -225,10 +230,8 @@ fn level_in(words: &mut Words) -> Option<u8> {
     if word == b"-1".as_slice() {
         return Some(100);
     }
-    let priority = number_of(word)?;
-    if priority <= 140 {
-        Some(99u8.saturating_sub(priority as u8))
-    } else {
-        None
+    match number_of(word) {
+        Some(priority) if priority <= 140 => Some(99u8.saturating_sub(priority as u8)),
+        _ => None,
     }
 }

@@ -170,8 +170,10 @@ impl Recording {
                 self.tasks.end(event.task, event.time)?;
             }
         }
-        self.events.push(event)?;
-        Ok(None)
+        match self.events.push(event) {
+            Ok(()) => Ok(None),
+            Err(_) => Err(AllocError),
+        }
     }
 
     fn take_name(&mut self, line: &Name) -> Result<Option<LineFault>, AllocError> {

@@ -125,10 +125,10 @@ impl Track {
         self.level = Some(level);
         if is_asleep {
             self.sleep(sign.time);
-            Ok(())
-        } else {
-            Ok(self.preempted.push(sign.time)?)
+        } else if self.preempted.push(sign.time).is_err() {
+            return Err(AllocError);
         }
+        Ok(())
     }
 
     /// The level of the task changes, by a line of the task that boosts it, which may run on another CPU.
@@ -170,15 +170,17 @@ impl Track {
         address: u64,
     ) -> Result<(), AllocError> {
         self.end_call(sign);
-        Ok(
-            self.calls.push(Call {
-                is_unlock,
-                address,
-                begin: sign.time,
-                slept: None,
-                end: None,
-            })?,
-        )
+        let call = Call {
+            is_unlock,
+            address,
+            begin: sign.time,
+            slept: None,
+            end: None,
+        };
+        match self.calls.push(call) {
+            Ok(()) => Ok(()),
+            Err(_) => Err(AllocError),
+        }
     }
 
     /// The task runs, and its last call returned, if it hadn't.

@@ -68,10 +68,8 @@ impl Tracks {
     }
 
     fn forget(&mut self) {
-        for place in 0..self.list.len() {
-            if place < self.list.len() {
-                self.list[place].forget();
-            }
+        for track in self.list.iter_mut() {
+            track.forget();
         }
     }
 
