@@ -1,6 +1,5 @@
 -- The times that a boosted thread ran, which add up.
-use Rattle.std.specs.Prelude.{◌≤◌, ℕ, List, sum}
-use Rattle.std.specs.Prelude.{min}
+use Rattle.std.specs.Prelude.{◌≤◌, ℕ, List, min, sum}
 
 -- the sum of times, or the longest time that a u64 has if the sum is longer
 abbrev pub capped_sum : List ℕ → ℕ

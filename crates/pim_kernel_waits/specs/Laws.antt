@@ -102,7 +102,7 @@ pub record IsWaiting (seen : List Event) (time : ℕ) (wait : FutexWait) : Type 
   }
 
 -- each wait lasted from one event of its task to the next one that ends a call, or lasts still: so no two of a task overlap
-pub record WaitsLaw : Type 0 where
+pub record FutexWaitsLaw : Type 0 where
   pub in_calls : (seen : List Event) (t : ℕ) (call : FutexCall) → call_of seen t ≡ Some call → IsInCall seen t call
   pub ended : (seen : List Event) (wait : FutexWait) → Contains (ended_waits seen) wait → HasWaited seen wait
   pub lasting : (seen : List Event) (time : ℕ) (events : List Event) (wait : FutexWait) →

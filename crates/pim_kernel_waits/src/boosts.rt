@@ -44,7 +44,7 @@ pub fn boosted_in(
     let mut places = HashMap::new(alloc);
     for span in &spans {
         let ran = match tracks.of_task(span.task) {
-            Some(track) => ran_within(track.stretches.as_slice(), span),
+            Some(track) => ran_during_boost(track.stretches.as_slice(), span),
             None => 0,
         };
         if ran > 0 {
@@ -85,7 +85,7 @@ fn place_of(
 }
 
 /// Returns how long a thread, which ran in these stretches, did so within a boost at its level.
-fn ran_within(stretches: &[Stretch], span: &BoostSpan) -> u64 {
+fn ran_during_boost(stretches: &[Stretch], span: &BoostSpan) -> u64 {
     let mut ran = 0u64;
     for place in first_behind(stretches, span.begin)..stretches.len() {
         let stretch = stretches[place];

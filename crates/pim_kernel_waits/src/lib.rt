@@ -35,7 +35,7 @@ pub use boosted::Boosted;
 pub use findings::{Findings, boosts_by};
 pub use futex_wait::{End, FutexWait, FutexWaits, Waker};
 pub use futexes::{futex_waits_of, longest_first};
-pub use laws::waits_law;
+pub use laws::futex_waits_law;
 pub use meanwhile::{Awaited, RanMeanwhile, ran_meanwhile};
 pub use spans::{Span, outside};
 pub use waits::Wait;

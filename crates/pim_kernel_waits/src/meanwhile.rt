@@ -153,7 +153,7 @@ fn ran_by(track: &Track, ready: &[Ready], wait: &Awaited) -> RanMeanwhile {
             break;
         }
         let level = stretch.before.max(stretch.after);
-        let ran = ran_within(&stretch, ready);
+        let ran = ran_while_ready(&stretch, ready);
         if level < wait.level && ran > 0 {
             one.level = one.level.max(level);
             one.ran = one.ran.saturating_add(ran);
@@ -163,7 +163,7 @@ fn ran_by(track: &Track, ready: &[Ready], wait: &Awaited) -> RanMeanwhile {
 }
 
 /// Returns how long a stretch is within those in which the owner was ready on its CPU.
-fn ran_within(stretch: &Stretch, ready: &[Ready]) -> u64 {
+fn ran_while_ready(stretch: &Stretch, ready: &[Ready]) -> u64 {
     let mut ran = 0u64;
     for place in first_ready_behind(ready, stretch.begin)..ready.len() {
         let one = ready[place];
