@@ -153,16 +153,16 @@ abbrev pub losses_in : List Event → List Lost
 losses_in [] = []
 losses_in (e ∷ before) = losses_in before ++ loss_of e e.what
 
--- whether a wait and a stretch have a time in common
-abbrev pub meets_one : FutexWait → Lost → Bool
-meets_one wait lost = nat_le lost.from wait.until && nat_le wait.began lost.to
+-- whether a stretch has a time in common with that between two times
+abbrev pub meets_one : ℕ → ℕ → Lost → Bool
+meets_one from until lost = nat_le lost.from until && nat_le from lost.to
 
-abbrev pub meets : List Lost → FutexWait → Bool
-meets lost wait = list_any (meets_one wait) lost
+abbrev pub meets : List Lost → ℕ → ℕ → Bool
+meets lost from until = list_any (meets_one from until) lost
 
 -- the waits that meet none
 abbrev pub certain : List Lost → List FutexWait → List FutexWait
-certain lost waits = filter (λ wait. not (meets lost wait)) waits
+certain lost waits = filter (λ wait. not (meets lost wait.began wait.until)) waits
 
 -- the waits of a recording are those that meet no loss, and the others are counted
 pub record AreFutexWaits (recording : Recording) (result : FutexWaits) : Type 0 where

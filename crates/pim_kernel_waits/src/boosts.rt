@@ -139,7 +139,9 @@ impl BoostSpans {
             begin: time,
             end: self.ended,
         };
-        self.list.push(span)?;
+        if self.list.push(span).is_err() {
+            return Err(AllocError);
+        }
         match self.open.insert(boost.task, place) {
             Ok(_) => Ok(()),
             Err(_) => Err(AllocError),

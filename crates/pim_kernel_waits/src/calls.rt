@@ -39,8 +39,9 @@ impl Calls {
     {
         match event.what {
             What::Wait(address) => self.put(event.task, Some(begun(event, address))),
-            What::Lock(_) | What::TryLock(_) | What::Unlock(_) => self.put(event.task, None),
-            What::Return(_) => self.put(event.task, None),
+            What::Lock(_) | What::TryLock(_) | What::Unlock(_) | What::Return(_) => {
+                self.put(event.task, None)
+            }
             What::Switch(switch) => self.switch(event.task, &switch),
             What::Wake(woken) => self.wake(event.task, level, woken),
             _ => Ok(()),
@@ -75,15 +76,14 @@ impl Calls {
     fn put(&mut self, task: u32, call: Option<FutexCall>) -> Result<(), AllocError>
         ensures { IfOk result (λ _. (t : ℕ) → call_in self.new t ≡ (if task == t then call else call_in self.old t)) }
     {
-        match call {
-            Some(call) => {
-                self.open.insert(task, call)?;
-            }
-            None => {
-                let _before = self.open.remove(&task);
-            }
+        let Some(call) = call else {
+            let _before = self.open.remove(&task);
+            return Ok(());
+        };
+        match self.open.insert(task, call) {
+            Ok(_) => Ok(()),
+            Err(_) => Err(AllocError),
         }
-        Ok(())
     }
 }
 

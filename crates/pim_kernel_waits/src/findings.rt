@@ -4,6 +4,8 @@ ghost use Rattle.pim_kernel_waits.specs.Orders.{AreLongestFirst, RanLongestFirst
 
 use crate::boosted::Boosted;
 use crate::boosts::boosted_in;
+use crate::futex_wait::Lost;
+use crate::futexes::meets;
 use crate::search::first_from;
 use crate::waits::{Wait, wait_of};
 use pim_kernel_events::{Boost, Event, Recording, Tracks, What};
@@ -44,13 +46,14 @@ impl Findings {
         let events = recording.events.as_slice();
         let callers = callers_in(alloc, events)?;
         let (waits, left_out) = waits_in(alloc, recording, tracks, &callers)?;
+        let (calls, boosts) = counts_in(events);
         Ok(Findings {
             waits,
             left_out,
             boosted: boosted_in(alloc, recording, tracks)?,
-            calls: calls_in(events),
+            calls,
             callers: callers.len() as u64,
-            boosts: boosts_in(events),
+            boosts,
             losses: tracks.losses,
             lost_time: tracks.lost_time,
         })
@@ -76,8 +79,9 @@ pub fn boosts_by(
             break;
         }
         if let What::Boost(boost) = event.what {
-            if event.task == wait.task && boost.after > boost.before {
-                found.push(boost)?;
+            let is_own = event.task == wait.task && boost.after > boost.before;
+            if is_own && found.push(boost).is_err() {
+                return Err(AllocError);
             }
         }
     }
@@ -89,9 +93,9 @@ fn callers_in(alloc: Global, events: &[Event]) -> Result<Vec<u32>, AllocError> {
     let mut callers = Vec::new(alloc);
     let mut known = HashMap::new(alloc);
     for event in events {
-        if is_call(event) && known.get(&event.task).is_none() {
-            callers.push(event.task)?;
-            if known.insert(event.task, true).is_err() {
+        let task = event.task;
+        if is_call(event) && known.get(&task).is_none() {
+            if callers.push(task).is_err() || known.insert(task, true).is_err() {
                 return Err(AllocError);
             }
         }
@@ -106,26 +110,21 @@ fn is_call(event: &Event) -> bool {
     }
 }
 
-fn calls_in(events: &[Event]) -> u64 {
-    let mut count = 0u64;
+/// Returns how many futex calls there were, and how often a boost began or rose.
+fn counts_in(events: &[Event]) -> (u64, u64) {
+    let mut calls = 0u64;
+    let mut boosts = 0u64;
     for event in events {
         if is_call(event) {
-            count = count.saturating_add(1);
+            calls = calls.saturating_add(1);
         }
-    }
-    count
-}
-
-fn boosts_in(events: &[Event]) -> u64 {
-    let mut count = 0u64;
-    for event in events {
         if let What::Boost(boost) = event.what {
             if boost.after > boost.before {
-                count = count.saturating_add(1);
+                boosts = boosts.saturating_add(1);
             }
         }
     }
-    count
+    (calls, boosts)
 }
 
 /// Returns the waits of these threads, the longest first, and how many were left out since events were lost meanwhile.
@@ -146,8 +145,8 @@ fn waits_in(
                 if let Some(wait) = wait_of(recording, *task, call) {
                     if meets(&lost, wait.began, wait.began.saturating_add(wait.lasted)) {
                         left_out = left_out.saturating_add(1);
-                    } else {
-                        waits.push(wait)?;
+                    } else if waits.push(wait).is_err() {
+                        return Err(AllocError);
                     }
                 }
             }
@@ -165,22 +164,18 @@ fn sort(waits: &mut Vec<Wait>)
 }
 
 /// Returns from when to when events were lost.
-pub(crate) fn losses_in(alloc: Global, events: &[Event]) -> Result<Vec<(u64, u64)>, AllocError> {
+pub(crate) fn losses_in(alloc: Global, events: &[Event]) -> Result<Vec<Lost>, AllocError> {
     let mut lost = Vec::new(alloc);
     for event in events {
         if let What::Lost(loss) = event.what {
-            lost.push((loss.from, event.time))?;
+            let one = Lost {
+                from: loss.from,
+                to: event.time,
+            };
+            if lost.push(one).is_err() {
+                return Err(AllocError);
+            }
         }
     }
     Ok(lost)
-}
-
-/// Returns whether events were lost between two times.
-pub(crate) fn meets(lost: &[(u64, u64)], begin: u64, end: u64) -> bool {
-    for (from, to) in lost {
-        if *from <= end && begin <= *to {
-            return true;
-        }
-    }
-    false
 }

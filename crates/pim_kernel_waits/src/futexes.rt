@@ -31,16 +31,8 @@ struct Search {
 pub fn futex_waits_of(alloc: Global, recording: &Recording) -> Result<FutexWaits, AllocError>
     ensures { IfOk result (AreFutexWaits recording.now) }
 {
-    let events = recording.events.as_slice();
-    let mut search = Search::through(alloc, events)?;
-    search.end(events, recording.ended)?;
-    let Search { lost, waits, .. } = search;
-    let kept = certain(alloc, &lost, &waits)?;
-    let left_out = waits.len().saturating_sub(kept.len());
-    Ok(FutexWaits {
-        waits: kept,
-        left_out,
-    })
+    let mut search = Search::through(alloc, recording.events.as_slice())?;
+    search.finish(alloc, recording)
 }
 
 /// Puts those first that lasted for the longest time. Of equally long ones the first stays first.
@@ -125,7 +117,7 @@ impl Search {
         if level == 0 {
             return Ok(());
         }
-        self.waits.push(FutexWait {
+        let wait = FutexWait {
             task,
             level,
             address: call.address,
@@ -133,8 +125,11 @@ impl Search {
             until,
             lasted: until.saturating_sub(call.began),
             end,
-        })?;
-        Ok(())
+        };
+        match self.waits.push(wait) {
+            Ok(()) => Ok(()),
+            Err(_) => Err(AllocError),
+        }
     }
 
     /// Adds the stretch in which events were lost, if an event says so.
@@ -144,13 +139,28 @@ impl Search {
         ensures calls { self.new.calls ≡ self.old.calls }
         ensures waits { self.new.waits ≡ self.old.waits }
     {
-        if let What::Lost(loss) = event.what {
-            self.lost.push(Lost {
-                from: loss.from,
-                to: event.time,
-            })?;
+        let What::Lost(loss) = event.what else {
+            return Ok(());
+        };
+        let lost = Lost {
+            from: loss.from,
+            to: event.time,
+        };
+        match self.lost.push(lost) {
+            Ok(()) => Ok(()),
+            Err(_) => Err(AllocError),
         }
-        Ok(())
+    }
+
+    /// Returns the waits of a recording, all of whose events were looked at.
+    fn finish(&mut self, alloc: Global, recording: &Recording) -> Result<FutexWaits, AllocError>
+        ensures { IfOk result (λ found.
+            Knows (reverse recording.now.events.items) self.old → AreFutexWaits recording.now found) }
+    {
+        self.end(recording.events.as_slice(), recording.ended)?;
+        let waits = certain(alloc, &self.lost, &self.waits)?;
+        let left_out = self.waits.len().saturating_sub(waits.len());
+        Ok(FutexWaits { waits, left_out })
     }
 
     /// Adds the waits that last at this time, at which the recording ends.
@@ -186,17 +196,17 @@ fn certain(alloc: Global, lost: &[Lost], waits: &[FutexWait]) -> Result<Vec<Fute
 {
     let mut kept = Vec::new(alloc);
     for place in 0..waits.len() {
-        if !meets(lost, &waits[place]) {
-            kept.push(waits[place])?;
+        let wait = &waits[place];
+        if !meets(lost, wait.began, wait.until) {
+            kept.push(*wait)?;
         }
     }
     Ok(kept)
 }
 
-/// Returns whether events were lost during a wait.
-fn meets(lost: &[Lost], wait: &FutexWait) -> bool
-    ensures { result ≡ meets lost.now wait.now }
+/// Returns whether events were lost between two times.
+pub(crate) fn meets(lost: &[Lost], from: u64, until: u64) -> bool
+    ensures { result ≡ meets lost.now from until }
 {
-    lost.iter()
-        .any(|one| one.from <= wait.until && wait.began <= one.to)
+    lost.iter().any(|one| one.from <= until && from <= one.to)
 }

@@ -54,7 +54,9 @@ impl Levels {
     fn put(&mut self, task: u32, level: u8) -> Result<(), AllocError>
         ensures { IfOk result (λ _. (t : ℕ) → level_in self.new t ≡ (if task == t then Some level else level_in self.old t)) }
     {
-        self.known.insert(task, level)?;
-        Ok(())
+        match self.known.insert(task, level) {
+            Ok(_) => Ok(()),
+            Err(_) => Err(AllocError),
+        }
     }
 }

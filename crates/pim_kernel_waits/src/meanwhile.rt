@@ -2,7 +2,9 @@
 ghost use Rattle.std.specs.Prelude.{All, IfOk};
 ghost use Rattle.pim_kernel_waits.specs.Orders.{RanMostFirst};
 
-use crate::findings::{losses_in, meets};
+use crate::findings::losses_in;
+use crate::futex_wait::Lost;
+use crate::futexes::meets;
 use crate::search::first_behind;
 use pim_kernel_events::{Recording, Stretch, Track, Tracks};
 use std::alloc::{AllocError, Global};
@@ -59,7 +61,10 @@ pub fn ran_meanwhile(
     let lost = losses_in(alloc, recording.events.as_slice())?;
     let mut found = Vec::new(alloc);
     for wait in waits {
-        found.push(ran_in(alloc, tracks, &lost, wait)?)?;
+        let ran = ran_in(alloc, tracks, &lost, wait)?;
+        if found.push(ran).is_err() {
+            return Err(AllocError);
+        }
     }
     Ok(found)
 }
@@ -68,7 +73,7 @@ pub fn ran_meanwhile(
 fn ran_in(
     alloc: Global,
     tracks: &Tracks,
-    lost: &[(u64, u64)],
+    lost: &[Lost],
     wait: &Awaited,
 ) -> Result<Vec<RanMeanwhile>, AllocError>
     ensures { IfOk result (λ found. RanMostFirst found.items) }
@@ -96,8 +101,8 @@ fn find(
         // Task 0 is the idle one of each CPU.
         if track.task != 0 && track.task != owner {
             let one = ran_by(track, ready, wait);
-            if one.ran > 0 {
-                found.push(one)?;
+            if one.ran > 0 && found.push(one).is_err() {
+                return Err(AllocError);
             }
         }
     }
@@ -110,7 +115,9 @@ fn ready_in(alloc: Global, owner: &Track, wait: &Awaited) -> Result<Vec<Ready>, 
     let mut ready = Vec::new(alloc);
     for time in &owner.preempted {
         if let Some(one) = ready_from(stretches, *time, wait) {
-            ready.push(one)?;
+            if ready.push(one).is_err() {
+                return Err(AllocError);
+            }
         }
     }
     Ok(ready)
