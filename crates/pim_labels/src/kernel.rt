@@ -1,5 +1,6 @@
 //! What the kernel's events show, beside a log and alone.
 
+use crate::task_names::TaskNames;
 use pim_base::Reason;
 use pim_comparison::Compared;
 use pim_kernel_events::{Recording, Tasks};
@@ -64,6 +65,16 @@ impl Drop for Alone {
             findings: _,
             futexes: _,
         } = self;
+    }
+}
+
+impl Alone {
+    /// Returns where the names of the tasks are.
+    pub fn names(&self) -> TaskNames<'_> {
+        TaskNames {
+            tasks: &self.recording.tasks,
+            told: None,
+        }
     }
 }
 

@@ -28,6 +28,6 @@ pub use place_texts::PlaceTexts;
 pub use task_names::{TaskNames, put_task, thread_of};
 pub use words::{
     LISTED_WAITS, Told, awaited_at_the_end, callers_of, family_of, found_of, mutexes, number_of,
-    put_caller, put_code, put_count, put_duration, put_level, put_moment, put_mutex, put_number,
-    put_place, put_since, put_thread, waits_of,
+    put_any, put_caller, put_code, put_count, put_duration, put_level, put_moment, put_mutex,
+    put_number, put_place, put_since, put_thread, waits_of,
 };

@@ -59,6 +59,15 @@ pub fn put_count(out: &mut Out, count: u64, word: &str) {
     }
 }
 
+/// Writes how many there are of something, behind some words and before others. Writes nothing if there are none.
+pub fn put_any(out: &mut Out, before: &str, count: u64, word: &str, behind: &str) {
+    if count > 0 {
+        out.put(before);
+        put_count(out, count, word);
+        out.put(behind);
+    }
+}
+
 /// Writes a thread: its name and its number in the kernel.
 pub fn put_thread(out: &mut Out, told: &Told, thread: u32) {
     told.labels.put_name(out, thread);

@@ -1,11 +1,11 @@
 //! The kernel's events without a log: what they say alone, as lines of text.
 
-use crate::futex_waits::{put_futex_waits, put_left_out};
+use crate::futex_waits::put_futex_waits;
 use crate::kernel::put_lost;
 use pim_kernel_events::Boost;
 use pim_kernel_waits::{Boosted, Wait, boosts_by};
 use pim_labels::{
-    Alone, LISTED_WAITS, TaskNames, put_count, put_duration, put_level, put_since, put_task,
+    Alone, LISTED_WAITS, put_any, put_count, put_duration, put_level, put_since, put_task,
 };
 use pim_out::Out;
 use std::alloc::{AllocError, Global};
@@ -15,6 +15,9 @@ const UNKNOWN: &str = "\
 not known: NONE and PROTECT mutexes, locks that nobody waits for, who owned a mutex at first, and priorities that the program sets
 so nothing is compared with what POSIX gives, and no trace is written
 ";
+
+/// Is written behind the number of waits that were left out.
+const WHILE_LOST: &str = " during which events were lost\n";
 
 /// Returns what the kernel's events alone say, a line each: the longest waits for mutexes and for futexes, the threads that
 /// ran at the priority of a boost, and what isn't known.
@@ -34,16 +37,13 @@ pub fn report_alone(alloc: Global, alone: &Alone) -> Result<String, AllocError> 
     }
     if waits.is_empty() {
         out.put("no thread waited for an INHERIT mutex\n");
-    } else if waits.len() > LISTED_WAITS {
-        let others = waits.len() - LISTED_WAITS;
-        out.put("and ");
-        put_count(&mut out, others as u64, "wait");
-        out.put(", none of them longer\n");
     }
+    let more = waits.len().saturating_sub(LISTED_WAITS) as u64;
+    put_any(&mut out, "and ", more, "wait", ", none of them longer\n");
     if let Some(futexes) = &alone.futexes {
         put_futex_waits(
             &mut out,
-            &names_of(alone),
+            &alone.names(),
             alone.recording.began,
             &futexes.waits,
         );
@@ -56,16 +56,8 @@ pub fn report_alone(alloc: Global, alone: &Alone) -> Result<String, AllocError> 
     out.finish()
 }
 
-/// Returns where the names of the tasks are.
-fn names_of(alone: &Alone) -> TaskNames<'_> {
-    TaskNames {
-        tasks: &alone.recording.tasks,
-        told: None,
-    }
-}
-
 fn put_wait(out: &mut Out, alone: &Alone, wait: &Wait) {
-    put_task(out, &names_of(alone), wait.task);
+    put_task(out, &alone.names(), wait.task);
     out.put(", at ");
     put_level(out, wait.level);
     let end = wait.began.saturating_add(wait.lasted);
@@ -90,7 +82,7 @@ fn put_wait(out: &mut Out, alone: &Alone, wait: &Wait) {
 /// Writes a boost that a wait began.
 fn put_boost(out: &mut Out, alone: &Alone, boost: &Boost) {
     out.put("; ");
-    put_task(out, &names_of(alone), boost.task);
+    put_task(out, &alone.names(), boost.task);
     out.put(" was boosted from ");
     put_level(out, boost.before);
     out.put(" to ");
@@ -100,7 +92,7 @@ fn put_boost(out: &mut Out, alone: &Alone, boost: &Boost) {
 /// Writes how often and for how long a thread ran at the priority of a boost.
 fn put_boosted(out: &mut Out, alone: &Alone, boosted: &Boosted) {
     out.put("boosted: ");
-    put_task(out, &names_of(alone), boosted.task);
+    put_task(out, &alone.names(), boosted.task);
     out.put(" ran at ");
     put_level(out, boosted.level);
     out.put(" in place of ");
@@ -133,12 +125,9 @@ fn put_summary(out: &mut Out, alone: &Alone) {
     }
     out.put("\n");
     put_lost(out, recording.lost, findings.losses, findings.lost_time);
-    if findings.left_out > 0 {
-        out.put("left out: ");
-        put_count(out, findings.left_out, "wait");
-        out.put(" during which events were lost\n");
-    }
+    put_any(out, "left out: ", findings.left_out, "wait", WHILE_LOST);
     if let Some(futexes) = &alone.futexes {
-        put_left_out(out, futexes.left_out as u64);
+        let count = futexes.left_out as u64;
+        put_any(out, "left out: ", count, "futex wait", WHILE_LOST);
     }
 }

@@ -1,7 +1,7 @@
 //! What threads can be blocked for, as lines of text.
 
 use pim_blocking::{Bound, Section};
-use pim_labels::{Told, put_count, put_duration, put_level, put_mutex, put_thread};
+use pim_labels::{Told, put_any, put_duration, put_level, put_mutex, put_thread};
 use pim_out::Out;
 
 /// What stands before the bounds.
@@ -51,11 +51,8 @@ fn put_sections(out: &mut Out, told: &Told, sections: &[Section]) {
         before = ", ";
         put_section(out, told, &sections[place]);
     }
-    let more = sections.len().saturating_sub(LISTED);
-    if more > 0 {
-        out.put(", and ");
-        put_count(out, more as u64, "other");
-    }
+    let more = sections.len().saturating_sub(LISTED) as u64;
+    put_any(out, ", and ", more, "other", "");
 }
 
 fn put_section(out: &mut Out, told: &Told, section: &Section) {

@@ -1,9 +1,7 @@
 //! The waits of real-time threads for futexes, as lines of text.
 
 use pim_kernel_waits::{End, FutexWait, Waker};
-use pim_labels::{
-    LISTED_WAITS, TaskNames, put_count, put_duration, put_level, put_since, put_task,
-};
+use pim_labels::{LISTED_WAITS, TaskNames, put_any, put_duration, put_level, put_since, put_task};
 use pim_out::Out;
 
 /// Writes the longest waits, the longest first, with times since one. Nothing if there is none.
@@ -16,12 +14,8 @@ pub fn put_futex_waits(out: &mut Out, names: &TaskNames, began: u64, waits: &[Fu
     for place in 0..waits.len().min(LISTED_WAITS) {
         put_wait(out, names, began, &waits[place]);
     }
-    let more = waits.len().saturating_sub(LISTED_WAITS);
-    if more > 0 {
-        out.put("  and ");
-        put_count(out, more as u64, "wait");
-        out.put(", none of them longer\n");
-    }
+    let more = waits.len().saturating_sub(LISTED_WAITS) as u64;
+    put_any(out, "  and ", more, "wait", ", none of them longer\n");
 }
 
 fn put_wait(out: &mut Out, names: &TaskNames, began: u64, wait: &FutexWait) {
@@ -61,13 +55,4 @@ fn put_waker(out: &mut Out, names: &TaskNames, waker: Option<Waker>) {
         None => out.put("an unknown thread"),
     }
     out.put(" woke it");
-}
-
-/// Writes how many waits were left out.
-pub fn put_left_out(out: &mut Out, count: u64) {
-    if count > 0 {
-        out.put("left out: ");
-        put_count(out, count, "futex wait");
-        out.put(" during which events were lost\n");
-    }
 }

@@ -3,7 +3,7 @@
 use pim_comparison::{Found, Lengthened};
 use pim_kernel_events::line_at;
 use pim_labels::{
-    Kernel, Told, put_count, put_duration, put_level, put_moment, put_reason, put_thread,
+    Kernel, Told, put_any, put_count, put_duration, put_level, put_moment, put_reason, put_thread,
 };
 use pim_out::Out;
 
@@ -17,12 +17,8 @@ pub fn put_differences(out: &mut Out, told: &Told, kernel: &Kernel) {
         put_difference(out, told, &found[place]);
         put_lines(out, kernel, &found[place]);
     }
-    if found.len() > LONGEST {
-        let others = found.len() - LONGEST;
-        out.put("and ");
-        put_count(out, others as u64, "difference");
-        out.put(", none of them longer\n");
-    }
+    let more = found.len().saturating_sub(LONGEST) as u64;
+    put_any(out, "and ", more, "difference", ", none of them longer\n");
 }
 
 fn put_difference(out: &mut Out, told: &Told, found: &Found) {

@@ -1,6 +1,6 @@
 //! Who ran in the place of an owner while another thread waited, as lines of text.
 
-use pim_labels::{Kernel, TaskNames, Told, put_count, put_duration, put_level, put_task};
+use pim_labels::{Kernel, TaskNames, Told, put_any, put_duration, put_level, put_task};
 use pim_out::Out;
 
 /// How many threads the text lists for a wait.
@@ -22,9 +22,7 @@ pub fn put_meanwhile(out: &mut Out, told: &Told, kernel: &Kernel, wait: usize) {
         put_level(out, ran[place].level);
         out.put(", ran in place of the owner\n");
     }
-    if ran.len() > LISTED {
-        out.put("    and ");
-        put_count(out, (ran.len() - LISTED) as u64, "thread");
-        out.put(", none of them for longer\n");
-    }
+    let more = ran.len().saturating_sub(LISTED) as u64;
+    let longer = ", none of them for longer\n";
+    put_any(out, "    and ", more, "thread", longer);
 }

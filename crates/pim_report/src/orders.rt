@@ -1,7 +1,7 @@
 //! Mutexes that were taken in opposite orders, as lines of text.
 
 use pim_deadlocks::{Nesting, Opposite};
-use pim_labels::{Told, number_of, put_code, put_count, put_mutex, put_thread};
+use pim_labels::{Told, number_of, put_any, put_code, put_mutex, put_thread};
 use pim_out::Out;
 
 /// What stands before the opposite orders.
@@ -28,12 +28,8 @@ fn put_listed(out: &mut Out, told: &Told, opposites: &[Opposite]) {
         put_nesting(out, told, &opposites[place].other);
         out.put("\n");
     }
-    let more = opposites.len().saturating_sub(LISTED);
-    if more > 0 {
-        out.put("  and ");
-        put_count(out, more as u64, "other pair");
-        out.put(" of mutexes\n");
-    }
+    let more = opposites.len().saturating_sub(LISTED) as u64;
+    put_any(out, "  and ", more, "other pair", " of mutexes\n");
 }
 
 /// Writes that a thread took a mutex and then asked for another.

@@ -1,7 +1,7 @@
 //! The waits of real-time threads for what isn't a mutex, as lines of text.
 
 use pim_labels::{
-    LISTED_WAITS, Told, put_code, put_count, put_duration, put_level, put_moment, put_thread,
+    LISTED_WAITS, Told, put_any, put_code, put_duration, put_level, put_moment, put_thread,
 };
 use pim_log::{ObjectKind, Outcome};
 use pim_other_waits::{Gift, OtherWait, longest_first, other_waits_of};
@@ -24,12 +24,8 @@ pub fn put_other_waits(alloc: Global, out: &mut Out, told: &Told) -> Result<(), 
     for place in 0..waits.len().min(LISTED_WAITS) {
         put_wait(out, told, &waits[place]);
     }
-    let more = waits.len().saturating_sub(LISTED_WAITS);
-    if more > 0 {
-        out.put("  and ");
-        put_count(out, more as u64, "wait");
-        out.put(", none of them longer\n");
-    }
+    let more = waits.len().saturating_sub(LISTED_WAITS) as u64;
+    put_any(out, "  and ", more, "wait", ", none of them longer\n");
     Ok(())
 }
 

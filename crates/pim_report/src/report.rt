@@ -12,7 +12,7 @@ use pim_facts::{Family, LeftOut};
 use pim_findings::FoundWait;
 use pim_import::Imported;
 use pim_labels::{
-    Kernel, Labels, TaskNames, Told, awaited_at_the_end, family_of, put_code, put_count,
+    Kernel, Labels, TaskNames, Told, awaited_at_the_end, family_of, put_any, put_code, put_count,
     put_duration, put_level, put_moment, put_mutex, put_number, put_place, put_thread,
 };
 use pim_log::Log;
@@ -100,14 +100,11 @@ fn put_waits(out: &mut Out, told: &Told, kernel: Option<&Kernel>) {
             put_meanwhile(out, told, kernel, place);
         }
     }
-    let listed = waits.longest.len() as u64;
     if waits.count == 0 {
         out.put("no thread waited for a mutex\n");
-    } else if waits.count > listed {
-        out.put("and ");
-        put_count(out, waits.count - listed, "wait");
-        out.put(", none of them longer\n");
     }
+    let more = waits.count.saturating_sub(waits.longest.len() as u64);
+    put_any(out, "and ", more, "wait", ", none of them longer\n");
 }
 
 fn put_wait(out: &mut Out, told: &Told, wait: &FoundWait) {
@@ -294,21 +291,12 @@ fn put_left_out(out: &mut Out, told: &Told, log: &Log) {
         }
     }
     let header = log.header();
-    if header.lost > 0 {
-        out.put("lost: ");
-        put_count(out, header.lost, "record");
-        out.put(" for which the log had no room\n");
-    }
-    if header.left_out > 0 {
-        out.put("unseen: ");
-        put_count(out, header.left_out, "call");
-        out.put(" that the recorder couldn't see whole\n");
-    }
-    if header.unplaced > 0 {
-        out.put("unplaced: ");
-        put_count(out, header.unplaced, "record");
-        out.put(" for whose place in the code the log had no room\n");
-    }
+    let room = " for which the log had no room\n";
+    put_any(out, "lost: ", header.lost, "record", room);
+    let whole = " that the recorder couldn't see whole\n";
+    put_any(out, "unseen: ", header.left_out, "call", whole);
+    let placed = " for whose place in the code the log had no room\n";
+    put_any(out, "unplaced: ", header.unplaced, "record", placed);
 }
 
 /// Writes how many requests were added that the log lacks.
