@@ -1,11 +1,12 @@
 //! What the kernel's events alone say, as JSON.
 
 use crate::futex_waits::put_futex_waits;
-use crate::tasks::put_task;
+use crate::report::begin_array;
+use crate::tasks::{put_address, put_task};
 use pim_kernel_events::Boost;
 use pim_kernel_waits::{Boosted, Wait, boosts_by};
-use pim_labels::{Alone, LISTED_WAITS, TaskNames};
-use pim_out::{JsonOut, Out};
+use pim_labels::{Alone, LISTED_WAITS};
+use pim_out::JsonOut;
 use std::alloc::{AllocError, Global};
 
 /// Returns the findings as one JSON object, and a line feed. Times are nanoseconds, of CLOCK_MONOTONIC where they say
@@ -22,8 +23,7 @@ pub fn json_alone(alloc: Global, alone: &Alone) -> Result<Vec<u8>, AllocError> {
     out.number("ended", alone.recording.ended);
     out.number("process", alone.recording.process);
     out.number("waits", findings.waits.len() as u64);
-    out.key("longest_waits");
-    out.begin_array();
+    begin_array(&mut out, "longest_waits");
     for place in 0..findings.waits.len().min(LISTED_WAITS) {
         let wait = &findings.waits[place];
         let boosts = boosts_by(alloc, &alone.recording, wait)?;
@@ -31,10 +31,9 @@ pub fn json_alone(alloc: Global, alone: &Alone) -> Result<Vec<u8>, AllocError> {
     }
     out.end_array();
     if let Some(futexes) = &alone.futexes {
-        put_futex_waits(alloc, &mut out, &names_of(alone), &futexes.waits);
+        put_futex_waits(alloc, &mut out, &alone.names(), &futexes.waits);
     }
-    out.key("boosted");
-    out.begin_array();
+    begin_array(&mut out, "boosted");
     for boosted in &findings.boosted {
         put_boosted(alloc, &mut out, alone, boosted);
     }
@@ -61,27 +60,16 @@ fn put_counts(out: &mut JsonOut, alone: &Alone) {
     out.boolean("kernel_events_whole", alone.recording.is_whole);
 }
 
-/// Returns where the names of the tasks are.
-fn names_of(alone: &Alone) -> TaskNames<'_> {
-    TaskNames {
-        tasks: &alone.recording.tasks,
-        told: None,
-    }
-}
-
 /// Writes a wait, and the boosts that it began.
 fn put_wait(alloc: Global, out: &mut JsonOut, alone: &Alone, wait: &Wait, boosts: &[Boost]) {
-    let mut address = Out::new(alloc);
-    address.address(wait.address);
     out.begin_object();
-    put_task(alloc, out, &names_of(alone), "thread", wait.task);
+    put_task(alloc, out, &alone.names(), "thread", wait.task);
     out.number("priority", u64::from(wait.level));
     out.number("began", wait.began);
     out.number("lasted", wait.lasted);
     out.boolean("returned", !wait.is_open);
-    out.text("mutex", &address);
-    out.key("boosts");
-    out.begin_array();
+    put_address(alloc, out, "mutex", wait.address);
+    begin_array(out, "boosts");
     for boost in boosts {
         put_boost(alloc, out, alone, boost);
     }
@@ -91,7 +79,7 @@ fn put_wait(alloc: Global, out: &mut JsonOut, alone: &Alone, wait: &Wait, boosts
 
 fn put_boost(alloc: Global, out: &mut JsonOut, alone: &Alone, boost: &Boost) {
     out.begin_object();
-    put_task(alloc, out, &names_of(alone), "thread", boost.task);
+    put_task(alloc, out, &alone.names(), "thread", boost.task);
     out.number("from", u64::from(boost.before));
     out.number("to", u64::from(boost.after));
     out.end_object();
@@ -99,7 +87,7 @@ fn put_boost(alloc: Global, out: &mut JsonOut, alone: &Alone, boost: &Boost) {
 
 fn put_boosted(alloc: Global, out: &mut JsonOut, alone: &Alone, boosted: &Boosted) {
     out.begin_object();
-    put_task(alloc, out, &names_of(alone), "thread", boosted.task);
+    put_task(alloc, out, &alone.names(), "thread", boosted.task);
     out.number("ran_at", u64::from(boosted.level));
     out.number("in_place_of", u64::from(boosted.own));
     out.number("times", boosted.times.len() as u64);

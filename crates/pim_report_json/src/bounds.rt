@@ -1,15 +1,14 @@
 //! What threads can be blocked for, as JSON.
 
-use crate::report::{put_number, put_thread};
+use crate::report::{begin_array, put_source, put_thread};
 use pim_blocking::{Bound, Section};
-use pim_labels::{Told, family_of, put_place};
-use pim_out::{JsonOut, Out};
+use pim_labels::Told;
+use pim_out::JsonOut;
 use std::alloc::Global;
 
 /// Writes what threads can be blocked for, the longest first.
 pub fn put_bounds(alloc: Global, out: &mut JsonOut, told: &Told) {
-    out.key("bounds");
-    out.begin_array();
+    begin_array(out, "bounds");
     for bound in &told.imported.built.findings.bounds {
         put_bound(alloc, out, told, bound);
     }
@@ -23,8 +22,7 @@ fn put_bound(alloc: Global, out: &mut JsonOut, told: &Told, bound: &Bound) {
     out.number("under_inherit", bound.under_inherit);
     out.number("under_protect", bound.under_protect);
     out.number("waited", bound.waited);
-    out.key("sections");
-    out.begin_array();
+    begin_array(out, "sections");
     for section in &bound.sections {
         put_section(alloc, out, told, section);
     }
@@ -34,15 +32,10 @@ fn put_bound(alloc: Global, out: &mut JsonOut, told: &Told, bound: &Bound) {
 
 /// Writes a critical section, with the mutex's number if it is in the trace.
 fn put_section(alloc: Global, out: &mut JsonOut, told: &Told, section: &Section) {
-    let mutex = section.user.mutex;
-    let mut place = Out::new(alloc);
-    put_place(&mut place, told, mutex);
     out.begin_object();
     put_thread(alloc, out, told, "thread", section.user.thread);
     out.number("priority", u64::from(section.user.level));
-    put_number(out, told, "mutex", mutex);
-    out.string("protocol", family_of(told, mutex).name());
-    out.text("place", &place);
+    put_source(alloc, out, told, "mutex", section.user.mutex);
     out.number("lasted", section.lasted);
     out.end_object();
 }

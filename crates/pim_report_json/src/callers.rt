@@ -1,6 +1,6 @@
 //! Who called the lock that a thread waited in, as JSON.
 
-use crate::report::put_at;
+use crate::report::{begin_array, put_at};
 use pim_findings::FoundWait;
 use pim_labels::{Told, callers_of};
 use pim_out::JsonOut;
@@ -12,8 +12,7 @@ pub fn put_callers(alloc: Global, out: &mut JsonOut, told: &Told, wait: &FoundWa
     if callers.is_empty() {
         return;
     }
-    out.key("stack");
-    out.begin_array();
+    begin_array(out, "stack");
     for place in callers {
         out.begin_object();
         put_at(alloc, out, told, "at", wait.thread, *place);

@@ -1,13 +1,13 @@
 //! Who ran in the place of an owner while another thread waited, as JSON.
 
+use crate::report::begin_array;
 use pim_kernel_waits::RanMeanwhile;
 use pim_labels::Kernel;
 use pim_out::JsonOut;
 
 /// Writes who ran in the place of the owner during one of the longest waits to an array, the one that ran longest first.
 pub fn put_meanwhile(out: &mut JsonOut, kernel: &Kernel, wait: usize) {
-    out.key("ran_meanwhile");
-    out.begin_array();
+    begin_array(out, "ran_meanwhile");
     for ran in kernel.ran_meanwhile(wait) {
         put_ran(out, kernel, ran);
     }

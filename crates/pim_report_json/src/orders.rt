@@ -1,15 +1,15 @@
 //! Mutexes that were taken in opposite orders, as JSON.
 
-use crate::report::{put_at, put_number, put_thread};
+use crate::report::{begin_array, put_at, put_source, put_thread};
+use crate::tasks::put_address;
 use pim_deadlocks::Nesting;
-use pim_labels::{Told, family_of, put_place};
-use pim_out::{JsonOut, Out};
+use pim_labels::Told;
+use pim_out::JsonOut;
 use std::alloc::Global;
 
 /// Writes which mutexes two threads took in opposite orders: for each two mutexes both orders.
 pub fn put_opposites(alloc: Global, out: &mut JsonOut, told: &Told) {
-    out.key("opposite_orders");
-    out.begin_array();
+    begin_array(out, "opposite_orders");
     for opposite in &told.imported.built.findings.opposites {
         out.begin_array();
         put_nesting(alloc, out, told, &opposite.first);
@@ -32,17 +32,11 @@ fn put_nesting(alloc: Global, out: &mut JsonOut, told: &Told, nesting: &Nesting)
 
 /// Writes a mutex, with its number if it is in the trace.
 fn put_mutex(alloc: Global, out: &mut JsonOut, told: &Told, key: &str, mutex: u32) {
-    let mut place = Out::new(alloc);
-    put_place(&mut place, told, mutex);
     out.key(key);
     out.begin_object();
-    put_number(out, told, "number", mutex);
-    out.string("protocol", family_of(told, mutex).name());
-    out.text("place", &place);
+    put_source(alloc, out, told, "number", mutex);
     if let Some(is) = told.imported.sources.ids.mutex(mutex) {
-        let mut address = Out::new(alloc);
-        address.address(is.address);
-        out.text("address", &address);
+        put_address(alloc, out, "address", is.address);
     }
     out.end_object();
 }

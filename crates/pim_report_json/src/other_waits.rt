@@ -1,10 +1,11 @@
 //! The waits of real-time threads for what isn't a mutex, as JSON.
 
-use crate::report::{put_at, put_thread};
+use crate::report::{begin_array, put_at, put_thread};
+use crate::tasks::put_address;
 use pim_labels::{LISTED_WAITS, Told};
 use pim_log::{ObjectKind, Outcome};
 use pim_other_waits::{OtherWait, longest_first, other_waits_of};
-use pim_out::{JsonOut, Out};
+use pim_out::JsonOut;
 use std::alloc::{AllocError, Global};
 
 /// Writes how many there are, and the longest ones, the longest first.
@@ -16,8 +17,7 @@ pub fn put_other_waits(alloc: Global, out: &mut JsonOut, told: &Told) -> Result<
     let mut waits = other_waits_of(alloc, told.log, &told.imported.sources.ids)?;
     longest_first(&mut waits)?;
     out.number("other_waits_in_all", waits.len() as u64);
-    out.key("other_waits");
-    out.begin_array();
+    begin_array(out, "other_waits");
     for place in 0..waits.len().min(LISTED_WAITS) {
         put_wait(alloc, out, told, &waits[place]);
     }
@@ -26,8 +26,6 @@ pub fn put_other_waits(alloc: Global, out: &mut JsonOut, told: &Told) -> Result<
 }
 
 fn put_wait(alloc: Global, out: &mut JsonOut, told: &Told, wait: &OtherWait) {
-    let mut object = Out::new(alloc);
-    object.address(wait.awaited.address);
     out.begin_object();
     put_thread(alloc, out, told, "thread", wait.thread);
     out.number("priority", u64::from(wait.level));
@@ -36,7 +34,7 @@ fn put_wait(alloc: Global, out: &mut JsonOut, told: &Told, wait: &OtherWait) {
     out.boolean("at_the_end", wait.ended.is_none());
     put_at(alloc, out, told, "at", wait.thread, wait.at);
     out.string("kind", name_of(wait.awaited.kind));
-    out.text("object", &object);
+    put_address(alloc, out, "object", wait.awaited.address);
     if let Some(ending) = &wait.ended {
         out.string("outcome", outcome_of(ending.outcome));
         if let Some(gift) = &ending.by {

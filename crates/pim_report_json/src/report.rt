@@ -62,8 +62,7 @@ fn put_all(
     put_bounds(alloc, out, told);
     put_other_waits(alloc, out, told)?;
     put_unlogged(alloc, out, told, kernel);
-    out.key("mutexes");
-    out.begin_array();
+    begin_array(out, "mutexes");
     for mutex in 0..mutexes(told) {
         let waits = waits_of(told, mutex);
         if waits.count > 0 {
@@ -78,10 +77,15 @@ fn put_all(
     Ok(())
 }
 
+/// Begins a field that is an array.
+pub fn begin_array(out: &mut JsonOut, key: &str) {
+    out.key(key);
+    out.begin_array();
+}
+
 /// Writes the longest waits, the longest first, each with who ran meanwhile in the place of the owner.
 fn put_longest_waits(alloc: Global, out: &mut JsonOut, told: &Told, kernel: Option<&Kernel>) {
-    out.key("longest_waits");
-    out.begin_array();
+    begin_array(out, "longest_waits");
     let waits = &told.imported.built.findings.waits;
     for (place, wait) in waits.longest.iter().enumerate() {
         out.begin_object();
@@ -99,8 +103,7 @@ fn put_all_waits(alloc: Global, out: &mut JsonOut, told: &Told) {
     let Some(waits) = &told.imported.built.findings.waits.all else {
         return;
     };
-    out.key("all_waits");
-    out.begin_array();
+    begin_array(out, "all_waits");
     for wait in waits {
         out.begin_object();
         put_wait(alloc, out, told, wait);
@@ -111,8 +114,7 @@ fn put_all_waits(alloc: Global, out: &mut JsonOut, told: &Told) {
 
 /// Writes where threads ran at another priority, the longest difference first.
 fn put_kernel(alloc: Global, out: &mut JsonOut, told: &Told, kernel: &Kernel) {
-    out.key("differences");
-    out.begin_array();
+    begin_array(out, "differences");
     for found in &kernel.compared.found {
         put_found(alloc, out, told, found);
     }
@@ -201,10 +203,19 @@ pub fn put_at(
 }
 
 /// Writes the number that a mutex has in the trace, if it takes part in it.
-pub fn put_number(out: &mut JsonOut, told: &Told, key: &str, mutex: u32) {
+fn put_number(out: &mut JsonOut, told: &Told, key: &str, mutex: u32) {
     if let Some(number) = number_of(told, mutex) {
         out.number(key, u64::from(number));
     }
+}
+
+/// Writes a mutex: its number as [`put_number`] does, its protocol, and where it comes from.
+pub fn put_source(alloc: Global, out: &mut JsonOut, told: &Told, key: &str, mutex: u32) {
+    let mut place = Out::new(alloc);
+    put_place(&mut place, told, mutex);
+    put_number(out, told, key, mutex);
+    out.string("protocol", family_of(told, mutex).name());
+    out.text("place", &place);
 }
 
 /// Writes the fields of a wait.
@@ -234,12 +245,8 @@ fn put_mutex(
     found: &FoundMutex,
     waits: &MutexWaits,
 ) {
-    let mut place = Out::new(alloc);
-    put_place(&mut place, told, mutex);
     out.begin_object();
-    put_number(out, told, "number", mutex);
-    out.string("protocol", family_of(told, mutex).name());
-    out.text("place", &place);
+    put_source(alloc, out, told, "number", mutex);
     out.number("waits", waits.count);
     out.number("time_waited", waits.time);
     out.number("longest_wait", waits.longest);
@@ -257,8 +264,7 @@ fn put_mutex(
 
 /// Writes the deadlocks: of each the threads, with the mutex that each waits for, which the next one owns.
 fn put_deadlocks(alloc: Global, out: &mut JsonOut, told: &Told) {
-    out.key("deadlocks");
-    out.begin_array();
+    begin_array(out, "deadlocks");
     for deadlock in &told.imported.built.findings.deadlocks {
         out.begin_array();
         for thread in &deadlock.threads {

@@ -1,8 +1,8 @@
-//! Tasks of the kernel's events as JSON.
+//! Tasks of the kernel's events, and addresses, as JSON.
 
 use crate::report::put_thread;
 use pim_labels::{TaskNames, thread_of};
-use pim_out::JsonOut;
+use pim_out::{JsonOut, Out};
 use std::alloc::Global;
 
 /// Writes a task as the thread of the log that it is, or else by its name and its number.
@@ -17,4 +17,11 @@ pub fn put_task(alloc: Global, out: &mut JsonOut, names: &TaskNames, key: &str, 
             out.end_object();
         }
     }
+}
+
+/// Writes an address in hexadecimal digits.
+pub fn put_address(alloc: Global, out: &mut JsonOut, key: &str, address: u64) {
+    let mut digits = Out::new(alloc);
+    digits.address(address);
+    out.text(key, &digits);
 }
