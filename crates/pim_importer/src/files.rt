@@ -68,22 +68,6 @@ pub fn is_file(rt: &HostRuntime, path: &str) -> bool {
     fs::open(rt, path).is_ok()
 }
 
-/// Returns whether a file or anything else is known to be at a path.
-fn is_there(rt: &HostRuntime, path: &str) -> bool {
-    match fs::exists(rt, path) {
-        Ok(is_there) => is_there,
-        Err(_) => false,
-    }
-}
-
-/// Returns whether there is no file, nor anything else, at a path.
-pub fn is_missing(rt: &HostRuntime, path: &str) -> bool {
-    match fs::exists(rt, path) {
-        Ok(is_there) => !is_there,
-        Err(_) => false,
-    }
-}
-
 /// Reads into the bytes from a place on, until they are full or the file ends.
 fn fill(file: &mut File, bytes: &mut [u8], from: usize) -> io::Result<()> {
     let mut begin = from;
@@ -120,10 +104,10 @@ pub fn write_traces(
     }
     for place in pieces.len()..usize::MAX {
         let path = path_of(alloc, log, place)?;
-        if !is_there(rt, path.as_str()) {
-            break;
+        match fs::exists(rt, path.as_str()) {
+            Ok(true) => results.add_stale(path)?,
+            _ => break,
         }
-        results.add_stale(path)?;
     }
     Ok(())
 }

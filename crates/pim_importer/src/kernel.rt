@@ -19,9 +19,9 @@ const FUTEXES_SINCE: u64 = 2;
 pub struct Events {
     /// The file's bytes.
     bytes: Vec<u8>,
-    recording: Recording,
+    pub recording: Recording,
     /// What each task did by them.
-    tracks: Tracks,
+    pub tracks: Tracks,
 }
 
 // Each place that drops it calls this one function, where a derived drop would be a call for each part there.
@@ -36,6 +36,16 @@ impl Drop for Events {
 }
 
 impl Events {
+    /// Returns what was recorded, without the bytes and the tracks.
+    pub fn into_recording(self) -> Recording {
+        let Events {
+            bytes: _,
+            recording,
+            tracks: _,
+        } = self;
+        recording
+    }
+
     /// Compares these with the trace.
     fn compared(
         self,
@@ -71,7 +81,7 @@ impl Events {
     }
 }
 
-/// Reads the kernel's events, if there are any.
+/// Reads the kernel's events of a log's recording: those that are named, or those next to the log, if there are any.
 ///
 /// # Errors
 ///
@@ -81,22 +91,51 @@ pub fn events_of(
     alloc: Global,
     paths: &LogPaths,
 ) -> Result<Option<Events>, Fault> {
-    let path = path_of(alloc, paths)?;
-    if paths.kernel.is_none() && !is_file(rt, path.as_str()) {
-        return Ok(None);
+    if let Some(path) = paths.kernel {
+        return Ok(Some(events_at(rt, alloc, path)?));
     }
-    let bytes = read_file(rt, alloc, path.as_str())?;
+    match events_next_to(rt, alloc, paths.log)? {
+        Some(path) => Ok(Some(events_at(rt, alloc, path.as_str())?)),
+        None => Ok(None),
+    }
+}
+
+/// Returns the path of the kernel's events next to a log, LOG.kernel, if there is such a file.
+///
+/// # Errors
+///
+/// Returns `AllocError` if out of memory.
+pub fn events_next_to(
+    rt: &HostRuntime,
+    alloc: Global,
+    log: &str,
+) -> Result<Option<String>, AllocError> {
+    let path = format!(in alloc; "{log}.kernel")?;
+    Ok(if is_file(rt, path.as_str()) {
+        Some(path)
+    } else {
+        None
+    })
+}
+
+/// Reads the kernel's events at a path.
+///
+/// # Errors
+///
+/// Returns `Read` if the file can't be read, `Kernel` if it is damaged, and `Memory` if out of memory.
+pub fn events_at(rt: &HostRuntime, alloc: Global, path: &str) -> Result<Events, Fault> {
+    let bytes = read_file(rt, alloc, path)?;
     let recording = match Recording::read(alloc, &bytes) {
         Ok(recording) => recording,
         Err(TextFault::Memory) => return Err(Fault::Memory),
-        Err(fault) => return Err(Fault::Kernel(path, fault)),
+        Err(fault) => return Err(Fault::Kernel(String::from_str(alloc, path)?, fault)),
     };
     let tracks = Tracks::of(alloc, &recording)?;
-    Ok(Some(Events {
+    Ok(Events {
         bytes,
         recording,
         tracks,
-    }))
+    })
 }
 
 /// Returns the waits that the kernel's events show. Without events there are none.
@@ -180,15 +219,4 @@ fn awaited_in(alloc: Global, imported: &Imported) -> Result<Vec<Awaited>, AllocE
         }
     }
     Ok(waits)
-}
-
-/// Returns the path of the kernel's events: the one that is named, or LOG.kernel.
-pub fn path_of(alloc: Global, paths: &LogPaths) -> Result<String, AllocError> {
-    match paths.kernel {
-        Some(path) => String::from_str(alloc, path),
-        None => {
-            let log = paths.log;
-            format!(in alloc; "{log}.kernel")
-        }
-    }
 }
