@@ -1,7 +1,7 @@
 //! A text of facts in place of a log.
 
 use crate::fault::Fault;
-use crate::files::read_file;
+use crate::files::{read_file, unreadable};
 use pim_facts_text::{FactsFault, Text, log_of, mutex_of, thread_of};
 use pim_labels::GivenNames;
 use std::alloc::{AllocError, Global};
@@ -50,20 +50,15 @@ fn bytes_at(rt: &HostRuntime, alloc: Global, path: &str) -> Result<Vec<u8>, Faul
     let mut bytes = Vec::new(alloc);
     match rt.reader().read_to_end(&mut bytes) {
         Ok(_) => Ok(bytes),
-        Err(_) => Err(Fault::Read(String::from_str(alloc, path)?)),
+        Err(_) => Err(unreadable(alloc, path)),
     }
 }
 
 /// Returns names with so many empty ones before them.
 fn shifted(alloc: Global, names: Vec<Vec<u8>>, count: usize) -> Result<Vec<Vec<u8>>, AllocError> {
-    let mut all = Vec::new(alloc);
+    let mut all = names;
     for _place in 0..count {
-        if all.push(Vec::new(alloc)).is_err() {
-            return Err(AllocError);
-        }
-    }
-    for name in names {
-        if all.push(name).is_err() {
+        if all.insert(0, Vec::new(alloc)).is_err() {
             return Err(AllocError);
         }
     }

@@ -28,7 +28,7 @@ use std::{fs, io};
 /// Returns `Read` if the file can't be read, `Log` if it doesn't begin with a header, and `Memory` if out of memory.
 pub fn read_log(rt: &HostRuntime, alloc: Global, path: &str) -> Result<Vec<u8>, Fault> {
     let Ok(mut file) = fs::open(rt, path) else {
-        return Err(Fault::Read(String::from_str(alloc, path)?));
+        return Err(unreadable(alloc, path));
     };
     let length = match file.metadata() {
         Ok(metadata) => metadata.len(),
@@ -36,19 +36,18 @@ pub fn read_log(rt: &HostRuntime, alloc: Global, path: &str) -> Result<Vec<u8>, 
     };
     let mut bytes = vec![in alloc; 0; length.min(HEADER_BYTES as u64) as usize]?;
     if fill(&mut file, &mut bytes, 0).is_err() {
-        return Err(Fault::Read(String::from_str(alloc, path)?));
+        return Err(unreadable(alloc, path));
     }
     let used = match used_bytes(&bytes) {
         Ok(used) => used,
         Err(fault) => return Err(Fault::Log(pim_log::LogFault::Header(fault))),
     };
-    let mut all = vec![in alloc; 0; (used as u64).min(length) as usize]?;
-    let begin = bytes.len().min(all.len());
-    all[..begin].copy_from_slice(&bytes[..begin]);
-    if fill(&mut file, &mut all, begin).is_err() {
-        return Err(Fault::Read(String::from_str(alloc, path)?));
+    let begin = bytes.len();
+    bytes.resize((used as u64).min(length) as usize, 0)?;
+    if fill(&mut file, &mut bytes, begin).is_err() {
+        return Err(unreadable(alloc, path));
     }
-    Ok(all)
+    Ok(bytes)
 }
 
 /// Reads a whole file.
@@ -59,7 +58,15 @@ pub fn read_log(rt: &HostRuntime, alloc: Global, path: &str) -> Result<Vec<u8>, 
 pub fn read_file(rt: &HostRuntime, alloc: Global, path: &str) -> Result<Vec<u8>, Fault> {
     match fs::read(rt, path) {
         Ok(bytes) => Ok(bytes),
-        Err(_) => Err(Fault::Read(String::from_str(alloc, path)?)),
+        Err(_) => Err(unreadable(alloc, path)),
+    }
+}
+
+/// Returns the fault of a file that can't be read.
+pub fn unreadable(alloc: Global, path: &str) -> Fault {
+    match String::from_str(alloc, path) {
+        Ok(path) => Fault::Read(path),
+        Err(_) => Fault::Memory,
     }
 }
 

@@ -93,16 +93,9 @@ fn import(
     let kernel = kernel_of(alloc, arguments.tolerance, &log, &imported, events)?;
     let mut labels = Labels::of(alloc, &log, &imported.sources.ids)?;
     labels.name_places(place_texts(rt, alloc, path, &log)?);
-    tell(
-        rt,
-        alloc,
-        path,
-        arguments.is_json,
-        &log,
-        &imported,
-        &labels,
-        kernel.as_ref(),
-    )
+    let kernel = kernel.as_ref();
+    let is_json = arguments.is_json;
+    tell(rt, alloc, path, is_json, &log, &imported, &labels, kernel)
 }
 
 /// Imports a text of facts, and returns the exit status. Record n of its log is line n of the text.
@@ -121,16 +114,9 @@ fn import_facts(
     };
     let mut labels = Labels::of(alloc, &log, &imported.sources.ids)?;
     labels.give(names);
-    tell(
-        rt,
-        alloc,
-        path.as_str(),
-        arguments.is_json,
-        &log,
-        &imported,
-        &labels,
-        None,
-    )
+    let path = path.as_str();
+    let is_json = arguments.is_json;
+    tell(rt, alloc, path, is_json, &log, &imported, &labels, None)
 }
 
 /// Returns what the arguments ask of an import. JSON lists all waits, and waits for futexes are compared with all.
@@ -179,9 +165,7 @@ fn write_all(
 ) -> Result<(), Fault> {
     write_traces(rt, alloc, path, imported, results)?;
     write_names(rt, alloc, path, imported, labels, results)?;
-    if print(rt, text).is_err() {
-        return Err(Fault::Write);
-    }
+    print(rt, text)?;
     results.keep(rt)
 }
 
@@ -193,9 +177,7 @@ fn tell_alone(rt: &HostRuntime, alloc: Global, path: &str, is_json: bool) -> Res
     } else {
         report_alone(alloc, &alone)?.into_bytes()
     };
-    if print(rt, &text).is_err() {
-        return Err(Fault::Write);
-    }
+    print(rt, &text)?;
     Ok(0)
 }
 
@@ -213,9 +195,11 @@ fn status_of(imported: &Imported, kernel: Option<&Kernel>) -> u8 {
 }
 
 /// Writes a text to standard output.
-fn print(rt: &HostRuntime, text: &[u8]) -> io::Result<()> {
+fn print(rt: &HostRuntime, text: &[u8]) -> Result<(), Fault> {
     use std::io::Write;
     let mut writer = io::writer(rt);
-    writer.write_all(text)?;
-    writer.flush()
+    if writer.write_all(text).is_err() || writer.flush().is_err() {
+        return Err(Fault::Write);
+    }
+    Ok(())
 }
