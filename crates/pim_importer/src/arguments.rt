@@ -178,7 +178,8 @@ fn show<'a>(rt: &HostRuntime, error: &Error) -> Result<Asked<'a>, Fault> {
 
 /// Returns the arguments.
 fn arguments_of<'a>(matches: &ArgMatches<'a>) -> Result<Arguments<'a>, Fault> {
-    let Some(tolerance) = tolerance_of(matches) else {
+    let tolerance = matches.get_str("tolerance").unwrap_or("50us");
+    let Some(tolerance) = duration_of(tolerance.as_bytes()) else {
         return Err(Fault::Tolerance);
     };
     Ok(Arguments {
@@ -197,14 +198,6 @@ fn input_of<'a>(matches: &ArgMatches<'a>) -> Input<'a> {
         (None, Some(facts)) => Input::Facts(facts),
         // Without both, clap requires --kernel.
         (None, None) => Input::Kernel(kernel.unwrap_or_default()),
-    }
-}
-
-/// Returns the tolerance in nanoseconds: 50 us where none is given, `None` where it is no duration.
-fn tolerance_of(matches: &ArgMatches) -> Option<u64> {
-    match matches.get_str("tolerance") {
-        Some(text) => duration_of(text.as_bytes()),
-        None => Some(50_000),
     }
 }
 
