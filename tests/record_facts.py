@@ -97,7 +97,7 @@ def streams(folder):
     status, out, err = answer([str(IMPORTER), "--facts", "nothing"], **here)
     check("facts that aren't there", difference((status, out, err), (2, b"", b"pim-import: nothing: it can't be read\n")))
     status, out, err = answer([str(IMPORTER), "--facts", ""], **here)
-    check("facts without a path", difference((status, out, err), (2, b"", b"pim-import: : it can't be read\n")))
+    check("facts without a path", difference((status, out, err), (2, b"", b"pim-import: --facts: the path is empty\n")))
     for arguments in (["--facts"], ["--facts", "a", "run"], ["--facts", "a", "--kernel", "b"]):
         status, out, err = answer([str(IMPORTER), *arguments], **here)
         check(f"the arguments {' '.join(arguments)}", difference((status, out, bool(err)), (2, b"", True)))

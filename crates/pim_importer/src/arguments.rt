@@ -135,7 +135,8 @@ fn collected(rt: &HostRuntime, alloc: Global) -> io::Result<Vec<String>> {
 ///
 /// # Errors
 ///
-/// Returns `Tolerance` if that is no duration, `Write` if a text can't be shown, and `Memory` if out of memory.
+/// Returns `EmptyPath` if a path is empty, `Tolerance` if that is no duration, `Write` if a text can't be shown, and `Memory`
+/// if out of memory.
 pub fn read_arguments<'a>(
     rt: &HostRuntime,
     alloc: Global,
@@ -178,6 +179,9 @@ fn show<'a>(rt: &HostRuntime, error: &Error) -> Result<Asked<'a>, Fault> {
 
 /// Returns the arguments.
 fn arguments_of<'a>(matches: &ArgMatches<'a>) -> Result<Arguments<'a>, Fault> {
+    if let Some(name) = empty_in(matches) {
+        return Err(Fault::EmptyPath(name));
+    }
     let tolerance = matches.get_str("tolerance").unwrap_or("50us");
     let Some(tolerance) = duration_of(tolerance.as_bytes()) else {
         return Err(Fault::Tolerance);
@@ -198,6 +202,17 @@ fn input_of<'a>(matches: &ArgMatches<'a>) -> Input<'a> {
         (None, Some(facts)) => Input::Facts(facts),
         // Without both, clap requires --kernel.
         (None, None) => Input::Kernel(kernel.unwrap_or_default()),
+    }
+}
+
+/// Returns the name of an argument whose path is empty, if there is one.
+fn empty_in(matches: &ArgMatches) -> Option<&'static str> {
+    let facts = matches.get_str("facts");
+    match (matches.get_str("log"), matches.get_str("kernel"), facts) {
+        (Some(""), _, _) => Some("LOG"),
+        (_, Some(""), _) => Some("--kernel"),
+        (_, _, Some("")) => Some("--facts"),
+        _ => None,
     }
 }
 

@@ -13,6 +13,9 @@ pub enum Fault {
     /// The log can't be read.
     #[error("{0}: it can't be read")]
     Read(String),
+    /// This argument is an empty path.
+    #[error("{0}: the path is empty")]
+    EmptyPath(&'static str),
     /// A trace, the names or the findings can't be written.
     #[error("the results can't be written")]
     Write,
