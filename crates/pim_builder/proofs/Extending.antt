@@ -1,7 +1,7 @@
 -- A trace that shows facts, as it goes on.
 use Rattle.std.proofs.Common.{◌≡◌, ◌∙◌, refl, sym, ap, ap₂, subst, inl, inr, ℕ, ◌≤◌, List, [], ◌∷◌, ◌++◌, All, Option, Some}
 use Rattle.std.proofs.Common.{◌-◌, IsSome, MatchOption, None, is_some}
-use Rattle.std.proofs.Common.{Bool, true, false, IsTrue, append_assoc, length, arith}
+use Rattle.std.proofs.Common.{◌⊎◌, Bool, true, false, IsTrue, append_assoc, length, arith}
 use Rattle.std.proofs.lemmas.List.{append-nil, length-replicate}
 use Rattle.std.proofs.lemmas.List.Elements.{All-append, All-cons, All-nil, All-weaker}
 use Rattle.std.specs.Vec.{vec_len}
@@ -16,10 +16,10 @@ use Rattle.pim_builder.specs.Views.{BuilderState, program_at, view_of}
 use Rattle.pim_builder.specs.Pieces.{AllJoinAt, Point, GoesOn, EndWith, HasTimes, steps_of}
 use Rattle.pim_builder.specs.Refusing.{NumberedLaw}
 use Rattle.pim_builder.specs.Showing.{HoldsOf, Joins, JoinsQueueBy, ShowsWhat, SetsNone, Shows}
-use Rattle.pim_builder.specs.Views.{held, task_now, mutex_now}
+use Rattle.pim_builder.specs.Views.{held, holder_in, mutex_now, task_now}
 use Rattle.pim_numbers.specs.Numbered.{number_in}
 use Rattle.pim_builder.specs.Shown.{as_thread, as_mutex, given_to, taken_by, holders_after, nobody, threads_after}
-use Rattle.pim_builder.specs.Shown.{mutexes_after, Dated, TracePoint, AppearsBetween, LeadsTo}
+use Rattle.pim_builder.specs.Shown.{mutexes_after, Dated, TracePoint, AppearsBetween, LeadsTo, AreHeldBy, is_shown_behind}
 use Rattle.pim_builder.specs.Shown.{IsShownAt, AreShownBy, AreShownIn, trace_point_of, view_at, HasHolders, AreShown, Extends}
 use Rattle.pim_builder.specs.declared.builder.Appearance.{Appearance}
 use Rattle.pim_builder.specs.declared.builder.Context.{Context}
@@ -27,6 +27,7 @@ use Rattle.pim_builder.specs.declared.builder.Who.{Who}
 use Rattle.pim_builder.specs.declared.builder.Who.TheVariants.{Thread, Mutex}
 use Rattle.pim_numbers.specs.declared.numbering.Numbers.{Numbers}
 use Rattle.pim_builder.proofs.GoingOn.{goes_on_refl, goes_on_trans, more_steps}
+use Rattle.pim_builder.proofs.Holding.{held_more, nobody_holds, used_is}
 use Rattle.pim_builder.proofs.KeepingQueues.{all_join_since}
 
 -- ---- who has a number
@@ -283,6 +284,26 @@ ordered_by context (latest ∷ facts) now shown = shown.6
 view_by : (context : Context) (b : BuilderState) → HasHolders context b → view_of b ≡ view_at context (trace_point_of b)
 view_by context b h = ap₂ (λ ts ms. record { threads = ts; mutexes = ms; program = program_at b.pieces }) h.threads h.mutexes
 
+-- where facts are shown, each number is held by whoever acted last with it
+held_by : (context : Context) (facts : List Dated) (now : TracePoint) → AreShownBy context facts now → AreHeldBy context facts (view_at context now)
+held_by context [] now begin = record {
+  threads = λ k. ap (λ es. holder_in (threads_after context es) k) begin.appeared
+      ∙ nobody_holds (vec_len context.numbering.now.threads.firsts) k;
+  mutexes = λ n. ap (λ es. holder_in (mutexes_after context es) n) begin.appeared
+      ∙ nobody_holds (vec_len context.numbering.now.mutexes.firsts) n;
+}
+held_by context (latest ∷ facts) now shown = shown.9
+
+held_now : (context : Context) (facts : List Dated) (b : BuilderState) → AreShown context facts b → AreHeldBy context facts (view_of b)
+held_now context facts b shown =
+    subst (AreHeldBy context facts) (sym (view_by context b shown.holders)) (held_by context facts (trace_point_of b) shown.shown)
+
+-- a fact is shown, or sets the level or ceiling of one who has no number
+shown_or_unset :
+    (P Q : Type 0) (is_used : Bool) → (IsTrue is_used → P) → (is_used ≡ false → Q) → P ⊎ Q
+shown_or_unset P Q true shows unset = inl (shows refl)
+shown_or_unset P Q false shows unset = inr (unset refl)
+
 -- one fact more
 pub shown_more :
     (context : Context) (fact : Fact) (time : ℕ) (a b : BuilderState) (is_used : Bool)
@@ -313,12 +334,32 @@ shown_more context fact time a b is_used extends shows unset keeps joins given f
         by_holders context b (extends.holders shown.holders) (λ ts ms.
             AllJoinBy a.pieces b.pieces (λ m. held ms m (number_in context.numbering.now.mutexes m)) fact.what fact.thread)
             given,
+        subst (AreHeldBy context (latest ∷ facts)) (view_by context b (extends.holders shown.holders))
+            (held_more context latest facts (view_of a) (view_of b) keeps (held_now context facts a shown)
+            b.pieces.piece.replay (priority_of context.priorities.now) fact.what refl
+            (shown_or_unset _ _ is_used shows unset)),
       );
     }
   where
+    latest : Dated
+    latest = record { fact = fact; time = time }
+
     is_shown : (u : Bool) → (IsTrue u → Shows context b fact) → (u ≡ false → SetsNone (task_now context b) (mutex_now context b) fact.what fact.thread) → IsShownAt context fact (trace_point_of b)
     is_shown true shows unset = shown_now context b fact (extends.holders shown.holders) (shows refl)
     is_shown false shows unset = unset_now context b fact (extends.holders shown.holders) (unset refl)
+
+-- whether it is in the trace, by the facts before it
+pub used_behind :
+    (context : Context) (fact : Fact) (time : ℕ) (b : BuilderState) (is_used : Bool)
+    → (IsTrue is_used → Shows context b fact)
+    → (is_used ≡ false → SetsNone (task_now context b) (mutex_now context b) fact.what fact.thread)
+    → (facts : List Dated)
+    → AreShown context (record { fact = fact; time = time } ∷ facts) b
+    → is_used ≡ is_shown_behind context facts fact.what fact.thread
+used_behind context fact time b is_used shows unset facts shown =
+    let latest : Dated = record { fact = fact; time = time } in
+    used_is context latest facts (view_of b) b.pieces.piece.replay (priority_of context.priorities.now) fact.what is_used refl
+    (held_now context (latest ∷ facts) b shown) shows unset
 
 -- a trace that ended shows what it showed
 pub shown_in_end :

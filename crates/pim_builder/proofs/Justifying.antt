@@ -318,11 +318,12 @@ module _ (context : Context) (time : ℕ) (fact : Fact) (m k n : ℕ) (a b c : B
         → IsSame (observed (program_at c.pieces) (observation.Released k n found)) (program_at q)
         → ShownNow
     released_shown l next found is looked same =
+        let its : ℕ → Type 0 = IsPassedOn q.piece.replay (option_and_then (task_now context c) next) in
         shows_as (what.Released l next) is
-        (subst (HoldsOf (IsPassedOn q.piece.replay (option_and_then (task_now context c) next)))
-        (sym (there (what.Released l next) l is refl))
+        (subst (HoldsOf (λ j. HoldsOf its (mutex_now context c l))) (sym task_still)
+        (subst (HoldsOf its) (sym (there (what.Released l next) l is refl))
         (subst (λ o. IsPassedOn q.piece.replay o n) looked
-        (passed_on (program_at c.pieces) q.piece.replay n found known.0 within same)))
+        (passed_on (program_at c.pieces) q.piece.replay n found known.0 within same))))
 
     -- the task waits for the mutex then
     pub waits_shown :
@@ -348,8 +349,9 @@ module _ (context : Context) (time : ℕ) (fact : Fact) (m k n : ℕ) (a b c : B
         → ShownNow
     gave_up_shown l is same =
         shows_as (what.GaveUp l) is
-        (subst (HoldsOf (λ j. awaited q.piece.replay j ≡ None)) (sym task_still)
-        (ap replays.mutex_of (same.waits k ∙ ap (λ y. cond y None ((program_at c.pieces).waits k)) (eq-eqb k k refl))))
+        (subst (HoldsOf (λ j. HoldsOf (λ i. awaited q.piece.replay j ≡ None) (mutex_now context c l))) (sym task_still)
+        (subst (HoldsOf (λ i. awaited q.piece.replay k ≡ None)) (sym (there (what.GaveUp l) l is refl))
+        (ap replays.mutex_of (same.waits k ∙ ap (λ y. cond y None ((program_at c.pieces).waits k)) (eq-eqb k k refl)))))
 
 -- ---- a level or a ceiling that is set
 

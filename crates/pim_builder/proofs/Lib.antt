@@ -1,6 +1,7 @@
 pub mod Joining
 pub mod KeepingQueues
 pub mod GoingOn
+pub mod Holding
 pub mod Extending
 pub mod Framing
 pub mod Entering

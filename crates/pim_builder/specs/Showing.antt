@@ -28,12 +28,14 @@ abbrev pub IsPassedOn : ReplayState → Option ℕ → ℕ → Type 0
 IsPassedOn r None n = owner_of r.state n ≡ None
 IsPassedOn r (Some k) n = Has (program_of r) k n ⊎ ((owner_of r.state n ≡ None) × (awaited r k ≢ Some n))
 
--- what a fact says of a thread is so: `tasks` has the tasks of threads, `mutexes` the numbers of the log's mutexes
+-- what a fact says of a thread is so: `tasks` has the tasks of threads, `mutexes` the numbers of the log's mutexes; who acts
+-- has a task, and the mutex a number
 abbrev pub ShowsWhat : ReplayState → (ℕ → ℕ) → (ℕ → Option ℕ) → (ℕ → Option ℕ) → What → ℕ → Type 0
 ShowsWhat r priority tasks mutexes (Granted m) t = HoldsOf (λ k. HoldsOf (Has (program_of r) k) (mutexes m)) (tasks t)
 ShowsWhat r priority tasks mutexes (Waits m) t = HoldsOf (λ k. HoldsOf (λ n. awaited r k ≡ Some n) (mutexes m)) (tasks t)
-ShowsWhat r priority tasks mutexes (GaveUp m) t = HoldsOf (λ k. awaited r k ≡ None) (tasks t)
-ShowsWhat r priority tasks mutexes (Released m next) t = HoldsOf (IsPassedOn r (option_and_then tasks next)) (mutexes m)
+ShowsWhat r priority tasks mutexes (GaveUp m) t = HoldsOf (λ k. HoldsOf (λ n. awaited r k ≡ None) (mutexes m)) (tasks t)
+ShowsWhat r priority tasks mutexes (Released m next) t =
+    HoldsOf (λ k. HoldsOf (IsPassedOn r (option_and_then tasks next)) (mutexes m)) (tasks t)
 ShowsWhat r priority tasks mutexes (Level level) t = HoldsOf (HasBase r (priority level)) (tasks t)
 ShowsWhat r priority tasks mutexes (Ceiling m level) t = HoldsOf (HasCeiling r (priority level)) (mutexes m)
 
@@ -53,7 +55,7 @@ abbrev pub Joins : Context → BuilderState → Fact → Type 0
 Joins context builder fact =
     JoinsQueueBy builder.pieces.piece.replay (task_now context builder) (mutex_now context builder) fact.what fact.thread
 
--- a level or a ceiling is set, which is in the trace only if its thread or mutex takes part by then
+-- a level or a ceiling is set, which is in the trace only if its thread or mutex has a number then
 abbrev pub IsSetting : What → Type 0
 IsSetting (Granted m) = ⊥
 IsSetting (Released m next) = ⊥
@@ -62,7 +64,16 @@ IsSetting (GaveUp m) = ⊥
 IsSetting (Ceiling m level) = Unit {0}
 IsSetting (Level level) = Unit {0}
 
--- the level or the ceiling is set of a thread or a mutex that takes no part
+-- the mutex with which a thread acts: it is granted it, waits for it, gives up or releases it; a level or a ceiling is no act
+abbrev pub used_mutex : What → Option ℕ
+used_mutex (Granted m) = Some m
+used_mutex (Released m next) = Some m
+used_mutex (Waits m) = Some m
+used_mutex (GaveUp m) = Some m
+used_mutex (Ceiling m level) = None
+used_mutex (Level level) = None
+
+-- the level or the ceiling is set of a thread or a mutex that has no number
 abbrev pub SetsNone : (ℕ → Option ℕ) → (ℕ → Option ℕ) → What → ℕ → Type 0
 SetsNone tasks mutexes (Granted m) t = ⊥
 SetsNone tasks mutexes (Released m next) t = ⊥

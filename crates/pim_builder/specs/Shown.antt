@@ -1,15 +1,19 @@
 -- How a trace shows facts, one after the other.
-use Rattle.std.specs.Prelude.{◌≡◌, ◌⊎◌, ◌≤◌, ℕ, List, [], ◌∷◌, ◌++◌, replicate, All, Option, None, Some}
+use Rattle.std.specs.Prelude.{◌≡◌, ◌⊎◌, ◌≤◌, ℕ, Bool, true, false, if◌then◌else◌, List, [], ◌∷◌, ◌++◌, replicate, All}
+use Rattle.std.specs.Prelude.{Option, None, Some}
+use Rattle.std.specs.Option.{option_and_then, option_map, option_map_or}
 use Rattle.std.specs.Vec.{vec_len}
-use Rattle.pim_base.specs.Lists.{put}
+use Rattle.pim_base.specs.Lists.{holds, put}
 use Rattle.pim_facts.specs.declared.fact.Fact.{Fact}
+use Rattle.pim_facts.specs.declared.fact.What.{What}
+use Rattle.pim_facts.specs.declared.fact.What.TheVariants.{Granted, Waits, GaveUp, Released, Level, Ceiling}
 use Rattle.pim_replay.specs.Priorities.{priority_of}
 use Rattle.pim_builder.specs.declared.piece.Piece.{Piece}
 use Rattle.pim_replay.specs.Replays.{IsInOrder}
 use Rattle.pim_builder.specs.Frames.{AllJoinBy, KeepsOthers}
 use Rattle.pim_builder.specs.Pieces.{Point, GoesOn, EndWith, HasTimes, steps_of}
-use Rattle.pim_builder.specs.Showing.{JoinsQueueBy, ShowsWhat, SetsNone}
-use Rattle.pim_builder.specs.Views.{BuilderState, View, mutex_in, program_at, task_in}
+use Rattle.pim_builder.specs.Showing.{JoinsQueueBy, ShowsWhat, SetsNone, used_mutex}
+use Rattle.pim_builder.specs.Views.{BuilderState, View, holder_in, mutex_in, program_at, task_in}
 use Rattle.pim_numbers.specs.Numbered.{number_in}
 use Rattle.pim_builder.specs.declared.builder.Appearance.{Appearance}
 use Rattle.pim_builder.specs.declared.builder.Context.{Context}
@@ -61,6 +65,40 @@ pub record Dated : Type 0 where
   pub fact : Fact
   pub time : ℕ
 
+-- the thread that acts by a fact, and the mutex with which it does; a new level or ceiling is no act
+abbrev pub acting_thread : Fact → Option ℕ
+acting_thread fact = option_map (λ m. fact.thread) (used_mutex fact.what)
+
+abbrev pub acting_mutex : Fact → Option ℕ
+acting_mutex fact = used_mutex fact.what
+
+-- who acted last of those with this number, by these facts, the latest first
+abbrev pub last_with : Numbers → (Fact → Option ℕ) → List Dated → ℕ → Option ℕ
+last_with numbers one_of [] number = None
+last_with numbers one_of (latest ∷ facts) number =
+    if holds (option_and_then (number_in numbers) (one_of latest.fact)) number then one_of latest.fact
+    else last_with numbers one_of facts number
+
+-- whether one holds its number by these facts: it acted last of those with that number
+abbrev pub holds_number : Numbers → (Fact → Option ℕ) → List Dated → ℕ → Bool
+holds_number numbers one_of facts one =
+    option_map_or (λ number. holds (last_with numbers one_of facts number) one) (number_in numbers one) false
+
+-- whether a trace that shows these facts shows what happens to a thread next: an act, or a level or ceiling of one that holds
+-- its number
+abbrev pub is_shown_behind : Context → List Dated → What → ℕ → Bool
+is_shown_behind context facts (Level level) t = holds_number context.numbering.now.threads acting_thread facts t
+is_shown_behind context facts (Ceiling m level) t = holds_number context.numbering.now.mutexes acting_mutex facts m
+is_shown_behind context facts (Granted m) t = true
+is_shown_behind context facts (Waits m) t = true
+is_shown_behind context facts (GaveUp m) t = true
+is_shown_behind context facts (Released m next) t = true
+
+-- each number is held by the one who acted last of those that have it, by these facts
+pub record AreHeldBy (context : Context) (facts : List Dated) (view : View) : Type 0 where
+  pub threads : (k : ℕ) → holder_in view.threads k ≡ last_with context.numbering.now.threads acting_thread facts k
+  pub mutexes : (n : ℕ) → holder_in view.mutexes n ≡ last_with context.numbering.now.mutexes acting_mutex facts n
+
 -- a point of a trace, and those who appear in it by this point
 pub record TracePoint : Type 0 where
   pub point : Point
@@ -101,7 +139,7 @@ task_at context here = task_in context (view_at context here)
 abbrev pub mutex_at : Context → TracePoint → ℕ → Option ℕ
 mutex_at context here = mutex_in context (view_at context here)
 
--- at a point the trace shows a fact, or that sets the level or ceiling of one who takes no part by then
+-- at a point the trace shows a fact, or that sets the level or ceiling of one who doesn't hold its number then
 abbrev pub IsShownAt : Context → Fact → TracePoint → Type 0
 IsShownAt context fact here =
     ShowsWhat here.point.piece.replay (priority_of context.priorities.now) (task_at context here) (mutex_at context here)
@@ -111,7 +149,7 @@ IsShownAt context fact here =
 -- A trace comes from its begin to this point by these facts, the latest first: from the point of the one before the latest,
 -- or from the begin, by steps at the time of the latest, which is shown here. What this fact isn't about stays. Those in
 -- a queue have tickets in the order in which they began to wait; whoever begins to wait is queued, if the model allows it,
--- and so are all who wait for a mutex that the fact gives to an owner.
+-- and so are all who wait for a mutex that the fact gives to an owner. Each number is held by whoever acted last with it.
 abbrev pub AreShownBy : Context → List Dated → TracePoint → Type 0
 AreShownBy context [] now = IsBegin now
 AreShownBy context (latest ∷ facts) now =
@@ -120,6 +158,7 @@ AreShownBy context (latest ∷ facts) now =
     × IsInOrder now.point.piece.replay
     × JoinsQueueBy now.point.piece.replay (task_at context now) (mutex_at context now) latest.fact.what latest.fact.thread
     × AllJoinBy before.point now.point (mutex_at context now) latest.fact.what latest.fact.thread
+    × AreHeldBy context (latest ∷ facts) (view_at context now)
 
 -- the same of the pieces of a trace and of all who appear in it: it ends at the point of the latest fact
 abbrev pub AreShownIn : Context → List Dated → List Piece → List Appearance → Type 0

@@ -20,7 +20,7 @@ ghost use Rattle.pim_builder.specs.Refusing.{first_base, first_ceiling, level_in
 ghost use Rattle.pim_course.specs.Courses.{family_in};
 ghost use Rattle.pim_facts.specs.declared.family.Family.TheVariants as family;
 ghost use Rattle.pim_builder.specs.Views.{holder_in, mutex_now, replay_now, task_now, view_of};
-ghost use Rattle.pim_builder.specs.Shown.{AreShown, AreShownIn, Dated, Extends};
+ghost use Rattle.pim_builder.specs.Shown.{AreShown, AreShownIn, Dated, Extends, is_shown_behind};
 
 use crate::piece::Piece;
 use crate::pieces::Pieces;
@@ -123,9 +123,8 @@ impl TraceBuilder {
         Ok((pieces, self.appearances))
     }
 
-    /// Makes the steps of a fact, which the record with this number shows, and returns whether it
-    /// is in the trace: a new level or ceiling only is if the thread or the mutex takes part by
-    /// then.
+    /// Makes the steps of a fact, which the record with this number shows, and returns whether it is in the trace: a new level
+    /// or ceiling is exactly if the thread or the mutex holds its number. That is, it acted last of those with that number.
     ///
     /// If it is, the trace shows it, behind all that it showed before: who owns and who waits, the
     /// priority or the ceiling.
@@ -144,6 +143,8 @@ impl TraceBuilder {
     /// proved that the trace can't show the fact, if queues are in order: `CannotShow` of specs/Refusing.antt.
     pub fn build(&mut self, context: &Context, fact: &Fact, now: &Now) -> Result<bool, ImportFault>
         ensures unused { IfOk result (λ is_used. is_used ≡ false → IsSetting fact.now.what) }
+        ensures used { IfOk result (λ is_used. (facts : List Dated) → AreShown context.now facts self.old →
+            is_used ≡ is_shown_behind context.now facts fact.now.what fact.now.thread) }
         ensures shows { IfOk result (λ is_used. IsTrue is_used → Shows context.now self.new fact.now) }
         ensures shown { IfOk result (λ _. (facts : List Dated) → AreShown context.now facts self.old →
             AreShown context.now (record { fact = fact.now; time = now.now.time } ∷ facts) self.new) }

@@ -37,7 +37,7 @@ use Rattle.pim_findings.specs.declared.findings.Findings.{Findings}
 use Rattle.pim_import.proofs.Adding.{all-added}
 use Rattle.pim_import.proofs.Going.{Adds, goes-by-record, goes-by-request}
 use Rattle.pim_import.specs.Following.{Agrees, ArePlaced, FollowsLog, HasAdded, HasFollowed, IsLacking, IsOfThread, IsSpared}
-use Rattle.pim_import.specs.Following.{IsUsed}
+use Rattle.pim_import.specs.Following.{is_used}
 use Rattle.pim_builder.specs.Shown.{AreShown, AreShownIn, Dated}
 use Rattle.pim_builder.specs.declared.builder.Context.{Context}
 use Rattle.pim_builder.specs.Views.{BuilderState}
@@ -205,7 +205,7 @@ follows-begin bytes context sections n k walk found builder tally begins none kn
     }
 
 -- one more record, which is counted
-pub follows-record : (is_used : Bool) (reason : LeftOut) (earlier tally : Tally) (bytes : List ℕ) (context : Context)
+pub follows-record : (used : Bool) (reason : LeftOut) (earlier tally : Tally) (bytes : List ℕ) (context : Context)
     (sections : CriticalSections) (n k number last time : ℕ) (put_at : Option ℕ) (old new : Walk) (found looked : Findings)
     (before after : BuilderState) → 1 ≤ number →
     time ≡ unwrap_or put_at last → IsTimeOf bytes number put_at → new.added ≡ old.added → HasSameSize old.course new.course →
@@ -214,13 +214,15 @@ pub follows-record : (is_used : Bool) (reason : LeftOut) (earlier tally : Tally)
     ((facts : List Moment) → Knows context n k sections facts found before →
     Knows context n k sections (moments_of context.sources.now new.course time (shown_in new.course.shown) ++ facts)
     looked after) →
-    IsUsed sections (shown_in new.course.shown) is_used →
-    IsReasonOf bytes context.sources.now number old.course reason → tally ≡ one_counted is_used reason earlier →
+    ((facts : List Moment) → Knows context n k sections facts found before →
+    used ≡ is_used context sections facts (shown_in new.course.shown)) →
+    IsReasonOf bytes context.sources.now number old.course reason → tally ≡ one_counted used reason earlier →
     HasAdded bytes context sections n k (number - 1) last old found before earlier →
     HasFollowed bytes context sections n k number time new looked after tally
-follows-record is_used reason earlier tally bytes context sections n k number last time put_at old new found looked before
+follows-record used reason earlier tally bytes context sections n k number last time put_at old new found looked before
     after above is_time is_put_at added size shown agrees step usage otherwise counted has =
     let f = has.followed in
+    let facts : List Moment = facts_of context.sources.now (stage_of (number - 1) last f.time old ∷ f.before) in
     record {
       time = time;
       before = stage_of (number - 1) last f.time old ∷ f.before;
@@ -231,16 +233,14 @@ follows-record is_used reason earlier tally bytes context sections n k number la
       );
       agree = All-cons Agrees (stage_of number time time new) (stage_of (number - 1) last f.time old ∷ f.before) agrees
           f.agree;
-      knows = step (facts_of context.sources.now (stage_of (number - 1) last f.time old ∷ f.before)) f.knows;
+      knows = step facts f.knows;
       tallied = (
         earlier,
         inr (record {
           number = omega (arith, above);
-          is_used = is_used;
           reason = reason;
-          usage = usage;
           otherwise = otherwise;
-          counted = counted;
+          counted = counted ∙ ap (λ u. one_counted u reason earlier) (usage facts f.knows);
         }),
         f.tallied,
       );

@@ -18,3 +18,4 @@ pub mod Acting
 pub mod TakingPart
 pub mod Beginning
 pub mod Ending
+pub mod Using

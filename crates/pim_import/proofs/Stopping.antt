@@ -24,7 +24,7 @@ use Rattle.pim_replay.specs.Replays.{IsInOrder}
 shown-in-order : (context : Context) (facts : List Dated) (here : TracePoint) → AreShownBy context facts here →
     IsInOrder here.point.piece.replay
 shown-in-order context [] here begin = begin.order
-shown-in-order context (latest ∷ facts) here (before, earlier, leads, timed, shows, keeps, order, joins, given) = order
+shown-in-order context (latest ∷ facts) here (before, earlier, leads, timed, shows, keeps, order, joins, given, held) = order
 
 -- a fact that is kept, and that the trace can't show if showing it fails, can't go into the trace
 pub kept-unfit : (context : Context) (sections : CriticalSections) (course : Course) (time : ℕ) (fact : Fact)

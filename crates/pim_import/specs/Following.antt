@@ -1,5 +1,5 @@
 -- The way through a log, and what is found of the facts that it shows.
-use Rattle.std.specs.Prelude.{◌≡◌, ◌⊎◌, ◌+◌, ◌-◌, ◌<◌, ◌≤◌, ℕ, ◌||◌, Bool, true, false, List, [], ◌∷◌, ◌++◌, map}
+use Rattle.std.specs.Prelude.{◌≡◌, ◌⊎◌, ◌+◌, ◌-◌, ◌<◌, ◌≤◌, ℕ, ◌&&◌, ◌||◌, Bool, true, false, List, [], ◌∷◌, ◌++◌, map}
 use Rattle.std.specs.Prelude.{reverse, filter, length, slice_get, slice_index_or, Option, Some, All}
 use Rattle.std.specs.List.{list_any}
 use Rattle.std.specs.Option.{option_map_or, unwrap_or}
@@ -44,8 +44,7 @@ use Rattle.pim_findings.specs.Orders.{FindsOpposites, KnowsOrders}
 use Rattle.pim_findings.specs.Ownerships.{Owns, mutex_at}
 use Rattle.pim_findings.specs.Waits.{Moment, all_waits}
 use Rattle.pim_findings.specs.declared.findings.Findings.{Findings}
-use Rattle.pim_builder.specs.Showing.{IsSetting}
-use Rattle.pim_builder.specs.Shown.{AreShown, AreShownIn, Dated}
+use Rattle.pim_builder.specs.Shown.{AreShown, AreShownIn, Dated, is_shown_behind}
 use Rattle.pim_builder.specs.declared.builder.Context.{Context}
 use Rattle.pim_builder.specs.Views.{BuilderState}
 use Rattle.pim_import.specs.KeptSections.{KeepsThoseOf, room_of}
@@ -175,33 +174,37 @@ pub record Knows (context : Context) (n k : ℕ) (sections : CriticalSections) (
   pub spared : All (IsSpared sections) facts
   pub trace : AreShown context (dated (kept_of sections facts)) builder
 
--- A record that shows these facts is used or not: it is used only if one of them is kept, and if it isn't used, those that
--- are kept only set levels or ceilings.
-pub record IsUsed (sections : CriticalSections) (facts : List Fact) (is_used : Bool) : Type 0 where
-  pub used : is_used ≡ true → list_any (is_kept sections) facts ≡ true
-  pub unused : is_used ≡ false → All (λ fact. IsKept sections fact → IsSetting fact.what) facts
+-- whether a fact is in the trace, by the facts before it: it is kept, and is no level or ceiling of one that doesn't
+-- hold its number
+abbrev pub is_shown : Context → CriticalSections → List Moment → Fact → Bool
+is_shown context sections before fact =
+    is_kept sections fact && is_shown_behind context (dated (kept_of sections before)) fact.what fact.thread
 
--- a stage leads to the next by a record, which is counted once: as used, or else by the reason of the course before it
-pub record CountsRecord (bytes : List ℕ) (sources : Sources) (sections : CriticalSections) (from to : Stage)
-    (before after : Tally) : Type 0 where
+-- whether a record that shows these facts is used, by the facts before it: one of them is in the trace
+abbrev pub is_used : Context → CriticalSections → List Moment → List Fact → Bool
+is_used context sections before facts = list_any (is_shown context sections before) facts
+
+-- A stage leads to the next by a record, which is counted once, by the facts up to the first: as used, or else by the reason
+-- of the course before it.
+pub record CountsRecord (bytes : List ℕ) (context : Context) (sections : CriticalSections) (facts : List Moment)
+    (from to : Stage) (before after : Tally) : Type 0 where
   pub number : to.number ≡ from.number + 1
-  pub is_used : Bool
   pub reason : LeftOut
-  pub usage : IsUsed sections (shown_in to.course.shown) is_used
-  pub otherwise : IsReasonOf bytes sources to.number from.course reason
-  pub counted : after ≡ one_counted is_used reason before
+  pub otherwise : IsReasonOf bytes context.sources.now to.number from.course reason
+  pub counted : after ≡ one_counted (is_used context sections facts (shown_in to.course.shown)) reason before
 
 -- a stage leads to the next by a request that the log lacks, which isn't counted, or by a record
-abbrev pub Counts : List ℕ → Sources → CriticalSections → Stage → Stage → Tally → Tally → Type 0
-Counts bytes sources sections from to before after =
-    ((to.number ≡ from.number) × (after ≡ before)) ⊎ CountsRecord bytes sources sections from to before after
+abbrev pub Counts : List ℕ → Context → CriticalSections → List Moment → Stage → Stage → Tally → Tally → Type 0
+Counts bytes context sections facts from to before after =
+    ((to.number ≡ from.number) × (after ≡ before)) ⊎ CountsRecord bytes context sections facts from to before after
 
 -- each record of a way to this stage, through those before it, is counted, and nothing else
-abbrev pub IsTallied : List ℕ → Sources → CriticalSections → Stage → List Stage → Tally → Type 0
-IsTallied bytes sources sections last [] tally = tally ≡ no_tally
-IsTallied bytes sources sections last (from ∷ before) tally =
-    (earlier : Tally) × Counts bytes sources sections from last earlier tally
-    × IsTallied bytes sources sections from before earlier
+abbrev pub IsTallied : List ℕ → Context → CriticalSections → Stage → List Stage → Tally → Type 0
+IsTallied bytes context sections last [] tally = tally ≡ no_tally
+IsTallied bytes context sections last (from ∷ before) tally =
+    (earlier : Tally)
+    × Counts bytes context sections (facts_of context.sources.now (from ∷ before)) from last earlier tally
+    × IsTallied bytes context sections from before earlier
 
 -- the stage up to which a walk has come, of which the last record's time and that of what it went by last are known
 abbrev pub stage_of : ℕ → ℕ → ℕ → Walk → Stage
@@ -218,7 +221,7 @@ pub record HasFollowed (bytes : List ℕ) (context : Context) (sections : Critic
   pub agree : All Agrees (stage_of number record_time time walk ∷ before)
   pub knows : Knows context n k sections
       (facts_of context.sources.now (stage_of number record_time time walk ∷ before)) found builder
-  pub tallied : IsTallied bytes context.sources.now sections (stage_of number record_time time walk) before tally
+  pub tallied : IsTallied bytes context sections (stage_of number record_time time walk) before tally
 
 -- A walk went through a log, and added each request behind the records so far.
 pub record HasAdded (bytes : List ℕ) (context : Context) (sections : CriticalSections) (n k number record_time : ℕ)
@@ -263,7 +266,7 @@ pub record FollowsLog (bytes : List ℕ) (context : Context) (sections : Critica
   pub trace : AreShownIn context (dated (kept_of sections (facts_of context.sources.now (last ∷ before))))
       built.pieces.items built.appearances.items
   pub course : built.course ≡ last.course
-  pub tally : IsTallied bytes context.sources.now sections last before built.tally
+  pub tally : IsTallied bytes context sections last before built.tally
 
 -- There is a way through all records of a log and all requests that it lacks, such that the critical sections in the
 -- trace are exactly those of which a fact on the way must stay: a thread begins to wait in it, or the fact may change a

@@ -10,11 +10,11 @@ ghost use Rattle.pim_findings.specs.Waits.{Moment};
 ghost use Rattle.pim_numbers.specs.declared.fault.ImportFault.TheVariants as import;
 ghost use Rattle.pim_import.specs.Contradicting.{CannotGoOn, ContradictsAt, IsUnfit};
 ghost use Rattle.pim_import.specs.Imports.{IsOfLog, IsOfTrace, IsRefused};
-ghost use Rattle.pim_import.specs.Following.{AreAdded, AreOfLog, ArePlaced, FollowsLog, HasAdded, HasFollowed, IsUsed, Knows};
-ghost use Rattle.pim_import.specs.Following.{moment_of, moments_of};
+ghost use Rattle.pim_import.specs.Following.{AreAdded, AreOfLog, ArePlaced, FollowsLog, HasAdded, HasFollowed, Knows};
+ghost use Rattle.pim_import.specs.Following.{is_shown, is_used, moment_of, moments_of};
 ghost use Rattle.pim_facts.specs.Shown.{shown_in};
 ghost use Rattle.pim_builder.specs.Pieces.{AreJoined, HasTimes};
-ghost use Rattle.pim_builder.specs.Showing.{IsSetting, Shows};
+ghost use Rattle.pim_builder.specs.Showing.{Shows};
 ghost use Rattle.pim_builder.specs.Shown.{AreShown};
 ghost use Rattle.pim_builder.specs.Views.{BuilderState};
 ghost use Rattle.pim_import.specs.LeftOut.{IsKept, MayBeLeftOut};
@@ -267,7 +267,7 @@ fn add_requests(
 }
 
 /// Makes the steps of a record or a request, and returns whether it is in the trace. What isn't kept of what it shows may be
-/// left out. If it isn't in the trace, what is kept of it sets the level or ceiling of those who take no part by then.
+/// left out. It is in the trace exactly if one of its facts is, by those before it.
 ///
 /// # Errors
 ///
@@ -283,10 +283,9 @@ fn show(
     ensures left_out { IfOk result (λ _. All
         (λ fact. IsKept sections.now fact ⊎ MayBeLeftOut walk.now.course context.now.sources.now fact)
         (shown_in walk.now.course.shown)) }
-    ensures unused { IfOk result (λ is_used. is_used ≡ false → All
-        (λ fact. IsSetting fact.what ⊎ MayBeLeftOut walk.now.course context.now.sources.now fact)
-        (shown_in walk.now.course.shown)) }
-    ensures usage { IfOk result (IsUsed sections.now (shown_in walk.now.course.shown)) }
+    ensures usage { IfOk result (λ used. (n k : ℕ) (facts : List Moment) →
+        Knows context.now n k sections.now facts findings.old builder.old →
+        used ≡ is_used context.now sections.now facts (shown_in walk.now.course.shown)) }
     ensures finds { IfOk result (λ _. (n k : ℕ) (facts : List Moment) →
         Knows context.now n k sections.now facts findings.old builder.old →
         let shown = moments_of context.now.sources.now walk.now.course now.now.time (shown_in walk.now.course.shown) in
@@ -310,7 +309,7 @@ fn show(
 
 /// Makes the steps of a fact, and returns whether it is in the trace. One of a critical section
 /// that isn't kept may be left out: it changes no priority. One that is kept is in the trace, but
-/// for a level or a ceiling of those who take no part by then. The trace shows one that is in it.
+/// for a level or a ceiling of those who don't hold their number. The trace shows one that is in it.
 ///
 /// # Errors
 ///
@@ -327,11 +326,10 @@ fn show_fact(
 ) -> Result<bool, ImportFault>
     ensures left_out { IfOk result (λ _.
         IsKept sections.now fact.now ⊎ MayBeLeftOut walk.now.course context.now.sources.now fact.now) }
-    ensures unused { IfOk result (λ is_used. is_used ≡ false →
-        IsSetting fact.now.what ⊎ MayBeLeftOut walk.now.course context.now.sources.now fact.now) }
-    ensures kept { IfOk result (λ is_used. IsTrue is_used → IsKept sections.now fact.now) }
-    ensures sets { IfOk result (λ is_used. is_used ≡ false → IsKept sections.now fact.now → IsSetting fact.now.what) }
-    ensures shows { IfOk result (λ is_used. IsTrue is_used → Shows context.now builder.new fact.now) }
+    ensures used { IfOk result (λ used. (n k : ℕ) (facts : List Moment) →
+        Knows context.now n k sections.now facts findings.old builder.old →
+        used ≡ is_shown context.now sections.now facts fact.now) }
+    ensures shows { IfOk result (λ used. IsTrue used → Shows context.now builder.new fact.now) }
     ensures finds { IfOk result (λ _. (n k : ℕ) (facts : List Moment) →
         Knows context.now n k sections.now facts findings.old builder.old →
         Knows context.now n k sections.now

@@ -49,7 +49,7 @@ loop-number-preserved c =
                 c.show.new.findings c.loop-number.builder c.show.new.builder c.loop-number.auto.number
                 c.unwrap_or-time.ensures c.read-moment.ensures.time c.read-moment.ensures.added
                 c.read-moment.ensures.size c.read-moment.ensures.shown c.in_ok-is_used.ensures.agrees
-                (c.in_ok-is_used.ensures.finds n k) c.in_ok-is_used.ensures.usage c.read-moment.ensures.otherwise
+                (c.in_ok-is_used.ensures.finds n k) (c.in_ok-is_used.ensures.usage n k) c.read-moment.ensures.otherwise
                 c.count.ensures.one has);
             added = after.added placed.order
                 (subst (λ added. AreAdded sources.requests.list.items (c.loop-number.number - 1) added)
@@ -101,5 +101,5 @@ returns-in_err-add_requests-clause-contradiction c =
     c.loop-number.builder c.show.new.builder c.loop-number.auto.number c.unwrap_or-time.ensures
     c.read-moment.ensures.time c.read-moment.ensures.added
     c.read-moment.ensures.size c.read-moment.ensures.shown c.in_ok-is_used.ensures.agrees
-    (c.in_ok-is_used.ensures.finds n k) c.in_ok-is_used.ensures.usage c.read-moment.ensures.otherwise c.count.ensures.one
-    (c.loop-number.invariant.follows n k begins none placed knows))))
+    (c.in_ok-is_used.ensures.finds n k) (c.in_ok-is_used.ensures.usage n k) c.read-moment.ensures.otherwise
+    c.count.ensures.one (c.loop-number.invariant.follows n k begins none placed knows))))

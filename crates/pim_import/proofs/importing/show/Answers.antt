@@ -1,39 +1,26 @@
-use Rattle.std.proofs.Common.{ℕ, ◌≡◌, ◌⊎◌, ◌||◌, ◌∙◌, ◌++◌, ◌+◌, ◌<◌, List, ap, sym, Bool, false, true, refl, subst}
-use Rattle.std.proofs.Common.{All, get_or, inr, length, rules, take}
-use Rattle.std.specs.List.{list_any}
-use Rattle.std.proofs.lemmas.List.Folds.{list_any_more}
+use Rattle.std.proofs.Common.{ℕ, ◌≡◌, ◌⊎◌, ◌||◌, ◌∙◌, ◌++◌, ◌+◌, List, sym, refl, subst}
+use Rattle.std.proofs.Common.{All, inr, take}
 use lib.Seq.{take_all}
-use Rattle.std.proofs.lemmas.List.Elements.{All-more}
+use Rattle.std.proofs.lemmas.List.Elements.{All-more, All-nil}
 use Rattle.pim_builder.proofs.Justifying.{of_fault}
 use Rattle.pim_numbers.specs.Faults.{IsContradiction}
-use Rattle.pim_builder.specs.Showing.{IsSetting}
 use Rattle.pim_import.specs.LeftOut.{IsKept, MayBeLeftOut}
-use Rattle.pim_import.specs.declared.critical_sections.CriticalSections.{CriticalSections}
 use Rattle.pim_facts.specs.declared.fact.Fact.{Fact}
 use Rattle.pim_findings.specs.Waits.{Moment}
-use Rattle.pim_import.proofs.Following.{kept-true, moments-more}
+use Rattle.pim_import.proofs.Following.{moments-more}
 use Rattle.pim_import.proofs.Stopping.{stops-at}
+use Rattle.pim_import.proofs.Using.{IsUsedBy, used-more, used-none}
 use Rattle.pim_import.specs.Contradicting.{CannotGoOn}
-use Rattle.pim_import.specs.Following.{Knows, is_kept, moments_of}
+use Rattle.pim_import.specs.Following.{Knows, is_used, moment_of, moments_of}
 use Rattle.pim_import.proofs.importing.show.Goals as goal
 
-neither : (a b : Bool) → (a || b) ≡ false → (a ≡ false) × (b ≡ false)
-neither false b none = (refl, none)
-neither true b none = search (rules, none)
-
--- what one of two tests shows, either of these shows
-either-true : (p q a b : Bool) → (a ≡ true → p ≡ true) → (b ≡ true → q ≡ true) → (a || b) ≡ true → (p || q) ≡ true
-either-true p q true b f g e = ap (λ v. v || q) (f refl)
-either-true true q false b f g e = refl
-either-true false q false b f g e = g e
-
--- one more fact: one that is kept is among the first ones, or it is this one
-kept-more : (sections : CriticalSections) (facts : List Fact) (i : ℕ) (other : Fact) (a b : Bool) → i < length facts →
-    (a ≡ true → list_any (is_kept sections) (take i facts) ≡ true) → (b ≡ true → IsKept sections (get_or facts i other)) →
-    (a || b) ≡ true → list_any (is_kept sections) (take (i + 1) facts) ≡ true
-kept-more sections facts i other a b inside f g e =
-    list_any_more (is_kept sections) facts i other inside
-    ∙ either-true _ _ a b f (λ is. kept-true sections (get_or facts i other) (g is)) e
+pub loop-fact-init : goal.loop-fact-init
+loop-fact-init c = record {
+  left_out = All-nil
+      (λ (s : Fact). IsKept c.args.sections.now s ⊎ MayBeLeftOut c.args.walk.now.course c.args.context.now.sources.now s);
+  counts = λ n k facts knows. used-none c.args.context.now c.args.sections.now facts;
+  finds = λ n k facts knows. knows;
+}
 
 pub loop-fact-preserved : goal.loop-fact-preserved
 loop-fact-preserved c =
@@ -44,18 +31,17 @@ loop-fact-preserved c =
           (λ (s : Fact). IsKept c.args.sections.now s ⊎ MayBeLeftOut c.args.walk.now.course c.args.context.now.sources.now s)
           c.shown-shown.result.now c.loop-fact.fact-index _ c.loop-fact-test.true c.loop-fact.invariant.left_out
           told.left_out;
-      unused = λ none.
-          let both = neither c.loop-fact.is_used c.in_ok-is_used.field-0 none in
-          All-more (λ (s : Fact). IsSetting s.what ⊎ MayBeLeftOut c.args.walk.now.course c.args.context.now.sources.now s)
-          c.shown-shown.result.now c.loop-fact.fact-index _ c.loop-fact-test.true (c.loop-fact.invariant.unused both.0)
-          (told.unused both.1);
-      used =
-          kept-more c.args.sections.now c.shown-shown.result.now c.loop-fact.fact-index _ c.loop-fact.is_used
-          c.in_ok-is_used.field-0 c.loop-fact-test.true c.loop-fact.invariant.used told.kept;
-      sets = λ none.
-          let both = neither c.loop-fact.is_used c.in_ok-is_used.field-0 none in
-          All-more (λ (s : Fact). IsKept c.args.sections.now s → IsSetting s.what) c.shown-shown.result.now
-          c.loop-fact.fact-index _ c.loop-fact-test.true (c.loop-fact.invariant.sets both.0) (told.sets both.1);
+      counts = λ n k facts knows.
+          let known = c.loop-fact.invariant.finds n k facts knows in
+          subst
+          (λ (moments : List Moment). IsUsedBy c.args.context.now c.args.sections.now facts (moments ++ facts)
+          (take (c.loop-fact.fact-index + 1) c.shown-shown.result.now) (c.loop-fact.is_used || c.in_ok-is_used.field-0))
+          (sym (moments-more c.args.context.now.sources.now c.args.walk.now.course c.args.now.now.time
+          c.shown-shown.result.now c.loop-fact.fact-index _ c.loop-fact-test.true))
+          (used-more c.args.context.now c.args.sections.now facts _
+          (moment_of c.args.context.now.sources.now c.args.walk.now.course c.args.now.now.time _) c.shown-shown.result.now
+          c.loop-fact.fact-index _ c.loop-fact.is_used c.in_ok-is_used.field-0 c.loop-fact-test.true refl
+          (c.loop-fact.invariant.counts n k facts knows) (told.used n k _ known));
       finds = λ n k facts knows.
           subst
           (λ (moments : List Moment). Knows c.args.context.now n k c.args.sections.now (moments ++ facts)
@@ -73,23 +59,11 @@ returns-clause-left_out c =
     (take_all c.loop-fact.fact-index c.shown-shown.result.now c.loop-fact-test.false ∙ c.shown-shown.ensures)
     c.loop-fact.invariant.left_out
 
-pub returns-clause-unused : goal.returns-clause-unused
-returns-clause-unused c none =
-    subst (All (λ (s : Fact). IsSetting s.what ⊎ MayBeLeftOut c.args.walk.now.course c.args.context.now.sources.now s))
-    (take_all c.loop-fact.fact-index c.shown-shown.result.now c.loop-fact-test.false ∙ c.shown-shown.ensures)
-    (c.loop-fact.invariant.unused none)
-
 pub returns-clause-usage : goal.returns-clause-usage
-returns-clause-usage c =
-    let all = take_all c.loop-fact.fact-index c.shown-shown.result.now c.loop-fact-test.false ∙ c.shown-shown.ensures in
-    record {
-      used = λ any.
-          subst (λ (facts : List Fact). list_any (is_kept c.args.sections.now) facts ≡ true) all
-          (c.loop-fact.invariant.used any);
-      unused = λ none.
-          subst (All (λ (s : Fact). IsKept c.args.sections.now s → IsSetting s.what)) all
-          (c.loop-fact.invariant.sets none);
-    }
+returns-clause-usage c n k facts knows =
+    subst (λ (shown : List Fact). c.loop-fact.is_used ≡ is_used c.args.context.now c.args.sections.now facts shown)
+    (take_all c.loop-fact.fact-index c.shown-shown.result.now c.loop-fact-test.false ∙ c.shown-shown.ensures)
+    (c.loop-fact.invariant.counts n k facts knows).used
 
 pub returns-clause-finds : goal.returns-clause-finds
 returns-clause-finds c n k facts knows =

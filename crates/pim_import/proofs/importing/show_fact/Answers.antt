@@ -1,10 +1,12 @@
-use Rattle.std.proofs.Common.{inr}
+use Rattle.std.proofs.Common.{◌∙◌, ◌&&◌, ap, inr, sym}
+use Rattle.std.proofs.lemmas.Result.{IfOk-weaker}
+use Rattle.pim_builder.specs.Shown.{is_shown_behind}
 use Rattle.pim_findings.proofs.Nested.{orders-more}
 use Rattle.pim_findings.specs.Bounds.{observed_of}
 use Rattle.pim_findings.specs.Waits.{Moment}
-use Rattle.pim_import.proofs.Following.{if-ok-then, kept-false, true-isnt-false, knows-with, knows-without}
+use Rattle.pim_import.proofs.Following.{if-ok-then, kept-false, kept-true, true-isnt-false, knows-with, knows-without}
 use Rattle.pim_import.proofs.Stopping.{kept-unfit}
-use Rattle.pim_import.specs.Following.{moment_of}
+use Rattle.pim_import.specs.Following.{dated, kept_of, moment_of}
 use Rattle.pim_import.proofs.importing.show_fact.Goals as goal
 
 pub returns-then-has-clause-finds : goal.returns-then-has-clause-finds
@@ -20,6 +22,24 @@ returns-then-has-clause-finds c =
     c.look.ensures.orders c.look.ensures.sections
     (c.in_ok-look.ensures.waits n k) (c.in_ok-look.ensures.owns k) (c.in_ok-look.ensures.hand_overs n k) made)
     c.build.ensures.shown
+
+pub returns-then-has-clause-used : goal.returns-then-has-clause-used
+returns-then-has-clause-used c =
+    IfOk-weaker c.build.result _ _
+    (λ u used n k facts knows.
+    let rest = dated (kept_of c.args.sections.now facts) in
+    used rest knows.trace
+    ∙ ap (λ b. b && is_shown_behind c.args.context.now rest c.args.fact.now.what c.args.fact.now.thread)
+    (sym (kept-true c.args.sections.now c.args.fact.now (c.has.ensures.0 c.if-has.true))))
+    c.build.ensures.used
+
+pub returns-clause-used : goal.returns-clause-used
+returns-clause-used c n k facts knows =
+    ap
+    (λ b. b && is_shown_behind c.args.context.now (dated (kept_of c.args.sections.now facts)) c.args.fact.now.what
+    c.args.fact.now.thread)
+    (sym (kept-false c.args.sections.now c.args.fact.now (λ kept. true-isnt-false c.has.result (c.has.ensures.1 kept)
+    c.if-has.false)))
 
 pub returns-then-has-clause-unfit : goal.returns-then-has-clause-unfit
 returns-then-has-clause-unfit c =

@@ -1,10 +1,11 @@
-use Rattle.std.proofs.Common.{IfErr, subst}
+use Rattle.std.proofs.Common.{IfErr, List, ◌∷◌, subst}
 use Rattle.pim_replay.specs.Replays.{IsInOrder}
 use Rattle.pim_numbers.specs.Faults.{IsContradiction}
 use Rattle.pim_builder.specs.Refusing.{CannotShow}
+use Rattle.pim_builder.specs.Shown.{AreShown, Dated}
 use Rattle.pim_builder.specs.Views.{BuilderState}
 use Rattle.pim_builder.proofs.Cutting.{cannot_show_before}
-use Rattle.pim_builder.proofs.Extending.{shown_more}
+use Rattle.pim_builder.proofs.Extending.{shown_more, used_behind}
 use Rattle.pim_builder.proofs.Justifying.{of_fault}
 use Rattle.pim_builder.proofs.Making.{IsMade, cut_and_made, of_fields}
 use Rattle.pim_builder.proofs.builder.TraceBuilder.build.Goals as goal
@@ -20,12 +21,18 @@ returns c =
       queued = c.in_ok-is_used.ensures.queued;
       given = c.in_ok-is_used.ensures.given;
     })) in
+    let shown :
+    (facts : List Dated) → AreShown c.args.context.now facts c.args.self.now →
+    AreShown c.args.context.now (record { fact = c.args.fact.now; time = c.args.now.now.time } ∷ facts) c.make.new.self =
+    shown_more c.args.context.now c.args.fact.now c.args.now.now.time c.args.self.now c.make.new.self
+    c.in_ok-is_used.is_used made.on c.in_ok-is_used.ensures.shows c.in_ok-is_used.ensures.unset made.others
+    made.queued made.given in
     record {
       unused = c.in_ok-is_used.ensures.unused;
+      used = λ facts before. used_behind c.args.context.now c.args.fact.now c.args.now.now.time c.make.new.self
+          c.in_ok-is_used.is_used c.in_ok-is_used.ensures.shows c.in_ok-is_used.ensures.unset facts (shown facts before);
       shows = c.in_ok-is_used.ensures.shows;
-      shown = shown_more c.args.context.now c.args.fact.now c.args.now.now.time c.args.self.now c.make.new.self
-          c.in_ok-is_used.is_used made.on c.in_ok-is_used.ensures.shows c.in_ok-is_used.ensures.unset made.others
-          made.queued made.given;
+      shown = shown;
       others = made.others;
       queued = made.queued;
       given = made.given;
