@@ -20,10 +20,10 @@ APART = ("left out: ", "lost: ", "unseen: ", "unplaced: ", "added: ", "not known
 OTHER = {"chunks_without_room_are_cut_short", "owner_keeps_its_place_where_it_waits", "owner_that_waits_loses_its_mutex",
          "release_before_the_grant_is_not_by_the_owner", "wait_is_of_the_thread_that_has_the_number_then",
          "trylock_waits_for_no_mutex", "trylock_in_a_section_lets_no_other_block",
-         "condition_variable_is_signalled", "joined_thread_ends_the_wait",
+         "condition_variable_is_signalled", "condition_variable_is_signalled_at_places", "joined_thread_ends_the_wait",
          "last_thread_at_a_barrier_ends_the_waits", "read_write_lock_is_unlocked_by_a_lower_thread",
          "semaphore_has_two_waiters", "semaphore_is_posted_by_a_lower_thread", "text_has_at_most_22_bytes",
-         "wait_that_times_out_has_no_giver",
+         "wait_that_times_out_has_no_giver", "wait_of_an_unknown_kind_is_none",
          "futex_wait_in_a_wait_of_the_log_is_not_said_twice",
          "futex_wait_of_a_log_that_lasts_to_its_end_is_not_said_twice", "waits_have_the_functions_that_called"}
 
