@@ -8,7 +8,7 @@ use crate::priority::Priority;
 use crate::text::Text;
 
 /// What a record says happened, with the fields that a reader needs. record/FORMAT.md has them all.
-#[derive(Clone, Copy, PartialEq, Eq)]
+#[derive(Clone, Copy)]
 pub enum Event {
     /// A thread's first record.
     Thread {
@@ -105,7 +105,7 @@ pub enum Event {
 }
 
 /// How a record names a thread.
-#[derive(Clone, Copy, PartialEq, Eq)]
+#[derive(Clone, Copy)]
 pub enum ThreadKey {
     /// By its pthread_t in the process of the record.
     Pthread(u64),

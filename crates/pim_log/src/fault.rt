@@ -6,7 +6,7 @@ use std::alloc::AllocError;
 use thiserror::Error;
 
 /// Why a header is refused: the first of these that applies.
-#[derive(Clone, Copy, Debug, PartialEq, Eq, Error)]
+#[derive(Clone, Copy, Debug, Error)]
 pub enum HeaderFault {
     /// The bytes are fewer than a header has, or begin with another mark.
     #[error("it isn't a log of pim-record, or only the beginning of one")]

@@ -3,7 +3,7 @@ ghost use Rattle.std.specs.Prelude.{◌≡◌};
 ghost use Rattle.pim_log.specs.Events.{kind_of};
 
 /// A mutex, as a record has it.
-#[derive(Clone, Copy, PartialEq, Eq)]
+#[derive(Clone, Copy)]
 pub struct Mutex {
     /// Where it is in the memory of the record's process.
     pub address: u64,
@@ -12,7 +12,7 @@ pub struct Mutex {
 }
 
 /// What a mutex is.
-#[derive(Clone, Copy, PartialEq, Eq)]
+#[derive(Clone, Copy)]
 pub struct MutexKind {
     pub protocol: Protocol,
     /// Whether its owner may lock it again.
@@ -22,7 +22,7 @@ pub struct MutexKind {
 }
 
 /// The protocol of a mutex.
-#[derive(Clone, Copy, PartialEq, Eq)]
+#[derive(Clone, Copy)]
 pub enum Protocol {
     /// PTHREAD_PRIO_NONE, also where the recorder can't know the protocol.
     None,

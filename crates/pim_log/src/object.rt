@@ -3,7 +3,7 @@ ghost use Rattle.std.specs.Prelude.{◌≡◌};
 ghost use Rattle.pim_log.specs.Events.{object_kind_of, outcome_of};
 
 /// What isn't a mutex and is waited for.
-#[derive(Clone, Copy, PartialEq, Eq)]
+#[derive(Clone, Copy)]
 pub struct Object {
     /// Where it is in the memory of the record's process. Of a thread it is its pthread_t.
     pub address: u64,

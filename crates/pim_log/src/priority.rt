@@ -3,7 +3,7 @@ ghost use Rattle.std.specs.Prelude.{◌≡◌};
 ghost use Rattle.pim_log.specs.Events.{priority_of};
 
 /// The priority of a thread.
-#[derive(Clone, Copy, PartialEq, Eq)]
+#[derive(Clone, Copy)]
 pub enum Priority {
     /// SCHED_OTHER, SCHED_BATCH, SCHED_IDLE, or a policy that isn't known.
     Other,

@@ -5,7 +5,7 @@ ghost use Rattle.std.specs.Prelude.{◌≡◌, min, take};
 pub(crate) const TEXT_BYTES: usize = 22;
 
 /// A part of a text: the name of a thread, or the path of a file.
-#[derive(Clone, Copy, PartialEq, Eq)]
+#[derive(Clone, Copy)]
 pub struct Text {
     /// The first `length` are of the text.
     pub(crate) bytes: [u8; TEXT_BYTES],

@@ -36,7 +36,7 @@ impl From<AllocError> for ImportFault {
 }
 
 /// Why spans don't get numbers.
-#[derive(Clone, Copy, PartialEq, Eq)]
+#[derive(Clone, Copy)]
 pub enum SharingFault {
     /// The span at this index begins before the one in front of it.
     OutOfOrder(usize),

@@ -9,7 +9,7 @@ use pim_base::Prio;
 const MAX_LEVEL: u8 = 100;
 
 /// How the levels of a log, 0 to 100, become the priorities of a trace, 1 to 99. A higher level has a higher priority.
-#[derive(Clone, Copy, PartialEq, Eq)]
+#[derive(Clone, Copy)]
 pub enum Scale {
     /// SCHED_FIFO and SCHED_RR keep their priorities. All policies below have 1, and SCHED_DEADLINE has 99.
     Same,
