@@ -1,8 +1,12 @@
 -- A search reaches exactly what is reached.
-use Rattle.std.proofs.Common.{◌≡◌, ◌⊎◌, ℕ, zero, suc, ◌+◌, ◌<◌, ◌≤◌, Bool, true, false, cond, not, List, [], ◌∷◌, ◌++◌, length, get_or, set, Contains, count_by, sum_by, inl, inr, refl, sym, ap, ap₂, ◌∙◌, subst, arith, true≢false, get_or-set_same, get_or-set_other, length-set, length-append}
+use Rattle.std.proofs.Common.{◌≡◌, ◌⊎◌, ℕ, zero, suc, ◌+◌, ◌<◌, ◌≤◌, Bool, true, false, cond, not, List, []}
+use Rattle.std.proofs.Common.{◌∷◌, ◌++◌, length, get_or, set, Contains, count_by, sum_by, inl, inr, refl, sym}
+use Rattle.std.proofs.Common.{ap, ap₂, ◌∙◌, subst, arith, true≢false, get_or-set_same, get_or-set_other}
+use Rattle.std.proofs.Common.{length-set, length-append}
 use Rattle.std.specs.Bool.{IsTrue}
 use Rattle.std.proofs.lemmas.Bool.{cases_eq}
-use Rattle.std.proofs.lemmas.List.Elements.{Contains-append_cases, Contains-append_left, Contains-append_right, Contains-push, Contains-push_cases}
+use Rattle.std.proofs.lemmas.List.Elements.{Contains-append_cases, Contains-append_left}
+use Rattle.std.proofs.lemmas.List.Elements.{Contains-append_right, Contains-push, Contains-push_cases}
 use Rattle.std.proofs.lemmas.List.Sums.{sum_by-set}
 use Rattle.pim_blocking.specs.declared.search.Search.{Search}
 use Rattle.pim_blocking.specs.Reached.{AreReached, Begins, IsReached, Reaches, by_nesting, by_use, is_in}
@@ -23,17 +27,6 @@ outside (b ∷ list) zero h = absurd (omega (arith, h))
 outside (b ∷ list) (suc m) h = let less : length list ≤ m = omega (arith, h) in outside list m less
 
 -- ---- mutexes are reached, one after the other
-
-pub reaches-none : (s : Search) → Reaches [] s s
-reaches-none s = record {
-  len = refl;
-  kept = λ m h. h;
-  these = λ m h lt. absurd (none-in m h);
-  only = λ m h. inl h;
-  left = λ m h. h;
-  new_left = λ m h. inl h;
-  work = refl;
-}
 
 pub reaches-then : (xs ys : List ℕ) (a b c : Search) → Reaches xs a b → Reaches ys b c → Reaches (xs ++ ys) a c
 reaches-then xs ys a b c p q = record {
@@ -62,24 +55,6 @@ reaches-then xs ys a b c p q = record {
     | inr new ↦ inr new
   ];
   work = q.work ∙ p.work;
-}
-
--- nothing changes where a mutex was reached before, or isn't one
-pub reaches-old : (m : ℕ) (s : Search) → (m < length s.reached.items → IsTrue (is_in s.reached.items m)) →
-    Reaches (m ∷ []) s s
-reaches-old m s old = record {
-  len = refl;
-  kept = λ n h. h;
-  these = λ n h lt. elim (Contains-push_cases [] m n h) [
-    | inl none ↦ absurd (none-in n none)
-    | inr same ↦
-        let less : m < length s.reached.items = omega (arith, lt, same) in
-        subst (λ o. IsTrue (is_in s.reached.items o)) same (old less)
-  ];
-  only = λ n h. inl h;
-  left = λ n h. h;
-  new_left = λ n h. inl h;
-  work = refl;
 }
 
 -- one is reached that wasn't

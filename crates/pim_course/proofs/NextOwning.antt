@@ -206,13 +206,6 @@ other-is t None n e = cc
 other-is t (Some k) n e =
     elim (k == t) as (λ b. cond b None (Some k) ≡ Some n → Some k ≡ Some n) [ true ↦ λ e. cc | false ↦ λ e. e ] e
 
--- so nobody is if there is no such thread
-pub no-owner : (ids : Ids) (m t : ℕ) (behind : List Record) → None ≡ next_other ids m t behind →
-    None ≡ next_owner ids m t behind
-no-owner ids m t behind none =
-    ap (option_and_then (λ k. cond (is_that (granted_first ids k behind) m) (Some k) None)) none
-    ∙ sym (owner-of-other (λ k. is_that (granted_first ids k behind) m) t (next_granted ids m behind))
-
 -- what it is granted next is known
 pub owner-known : (ids : Ids) (m t next : ℕ) (behind : List Record) (coming : Coming) (first : Option ℕ) (is : Bool) →
     HasRoom ids coming → Knows ids behind coming → CoversThose ids behind → Some next ≡ next_other ids m t behind →

@@ -126,20 +126,6 @@ seen-added n after before old new was is put all seen order = put.0 order ∙ go
         ∙ sym (seen-own n all order test)
     go false test = cond-false _ _ _ (key-same n.order order ∙ test) ∙ seen order ∙ sym (seen-other n all order test)
 
--- a nesting that changes nothing
-pub seen-kept : (n : Nesting) (before : Option Seen) (old : BTreeMap Order Seen) →
-    before ≡ tree.get by_mutexes old n.order → before ≡ Some (seen_with before n) →
-    (all : List Nesting) → AreSeen all old → AreSeen (n ∷ all) old
-seen-kept n before old was is all seen order = go (is_of order n) refl
-  where
-    go : (b : Bool) → is_of order n ≡ b → tree.get by_mutexes old order ≡ seen_in (n ∷ all) order
-    go true test =
-        let parts = and_parts _ _ test in
-        let same = same-order n.order order (eqb-true _ _ parts.0) (eqb-true _ _ parts.1) in
-        let these : before ≡ seen_in all order = was ∙ ap (tree.get by_mutexes old) same ∙ seen order in
-        seen order ∙ sym these ∙ is ∙ ap (λ o. Some (seen_with o n)) these ∙ sym (seen-own n all order test)
-    go false test = seen order ∙ sym (seen-other n all order test)
-
 -- ---- one fact more
 
 abbrev mutexes_at : List Owned → ℕ → List ℕ

@@ -37,21 +37,6 @@ set-kept seen t u h = elim (cases_eq u t) [
   | inr ne ↦ set-other seen t u ne ∙ h
 ]
 
-pub walk-none : (next : ℕ → Option ℕ) (seen : List Bool) (start : ℕ) → IsWalk next seen start seen [] (Some start)
-walk-none next seen start = record {
-  none = λ e. refl;
-  first = λ some. absurd (omega arith);
-  begun = inl refl;
-  each = λ k h. absurd (omega arith);
-  last = λ k h. absurd (omega arith);
-  apart = λ i j lt h. absurd (omega arith);
-  new = λ k h. absurd (omega arith);
-  marked = λ k h. absurd (omega arith);
-  kept = λ t h. h;
-  only = λ t h. inl h;
-  len = refl;
-}
-
 pub walk-more : (next : ℕ → Option ℕ) (before : List Bool) (start : ℕ) (seen : List Bool) (passed : List ℕ)
     (end : Option ℕ) (t : ℕ) →
     end ≡ Some t → get_or seen t true ≡ false → IsWalk next before start seen passed end →

@@ -1,14 +1,12 @@
 -- What each thread of a log is, record by record.
 use Rattle.std.proofs.Common.{◌≡◌, ℕ, zero, suc, ◌+◌, ◌<◌, ◌≤◌, ◌==◌, ◌&&◌, Bool, true, false, cond, List, [], ◌∷◌, get_or}
 use Rattle.std.proofs.Common.{Some, refl, ap, subst, ◌∙◌, arith}
-use Rattle.std.specs.Prelude.{slice_get}
 use Rattle.std.specs.Option.{option_map, option_map_or}
 use Rattle.pim_log.specs.Headers.{header_of, end_of}
 use Rattle.pim_log.specs.Logs.{IsNumbered, IsRecord}
 use Rattle.pim_log.specs.declared.record.Record.{Record}
-use Rattle.pim_facts.specs.Logged.{ChangesThread, HasLogged, HasThreads, last_begin_of, last_of, level_begun, logged_at}
+use Rattle.pim_facts.specs.Logged.{ChangesThread, HasLogged, HasThreads, last_begin_of, last_of, level_begun}
 use Rattle.pim_facts.specs.Logged.{met_by, nobody, thread_of, with_begun}
-use Rattle.pim_facts.specs.Levels.{first_level}
 use Rattle.pim_facts.specs.Naming.{AreBelow, IsAt, is_begin}
 use Rattle.pim_facts.specs.declared.ids.Ids.{Ids}
 use Rattle.pim_facts.specs.declared.ids.LoggedThread.{LoggedThread}
@@ -83,13 +81,3 @@ logged bytes n e ids has is past = record {
   are = below-end bytes n has.all (subst (λ k. k ≤ n) is past) has.are;
   each = has.each;
 }
-
--- the level with which a thread begins is the one that it has
-pub first-level : (ids : Ids) (t : ℕ) → first_level ids t ≡ (logged_at ids t).level
-first-level ids t = each ids.threads.items t
-  where
-    each : (threads : List LoggedThread) (t : ℕ) →
-        option_map_or (λ one. one.level) (slice_get threads t) 0 ≡ (get_or threads t nobody).level
-    each [] t = refl
-    each (one ∷ rest) zero = refl
-    each (one ∷ rest) (suc t) = each rest t

@@ -15,7 +15,7 @@ use Rattle.pim_findings.specs.Longest.{AreReported, ListsLongest, capped, counts
 use Rattle.pim_findings.specs.Longest.{longest_for, waits_at}
 use Rattle.pim_findings.specs.Counted.{counted_with}
 use Rattle.pim_blocking.proofs.Placing.{first-placed, placed}
-use Rattle.pim_findings.proofs.Ordering.{longest-none, longest-placed}
+use Rattle.pim_findings.proofs.Ordering.{longest-placed}
 
 sum-more : (p : FoundWait → Bool) (f : FoundWait → ℕ) (b : Bool) (x : FoundWait) (xs : List FoundWait) → p x ≡ b →
     sum_by (λ y. cond (p y) (f y) 0) (x ∷ xs) ≡ cond b (sum_by (λ y. cond (p y) (f y) 0) xs + f x)
@@ -83,10 +83,6 @@ counts-other m wait waits ne =
     (sym (longest-one false m wait waits there))
     (sym (ap capped (sum-more (is_unbounded_for m) (λ w. 1) false wait waits unbounded)))
     (sym (ap capped (sum-more (is_unbounded_for m) (λ w. w.lasted) false wait waits unbounded)))
-
--- no wait is listed of none
-pub none-longest : (listed : List FoundWait) → listed ≡ [] → ListsLongest [] listed
-none-longest listed none = record { ordered = []; longest_first = longest-none; is = none }
 
 -- the longest with one wait more
 pub longest-more : (wait : FoundWait) (waits old new : List FoundWait) → ListsLongest (reverse waits) old →

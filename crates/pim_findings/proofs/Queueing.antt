@@ -3,13 +3,12 @@ use Rattle.std.proofs.Common.{◌≡◌, ◌≢◌, ◌⊎◌, ℕ, zero, suc, �
 use Rattle.std.proofs.Common.{[], ◌∷◌, ◌++◌, length, get_or, Some, None, Contains, refl, sym, ap, ◌∙◌, subst, inl, inr}
 use Rattle.std.proofs.Common.{arith, eq-eqb, get_or-set_other, get_or-set_same}
 use Rattle.std.proofs.Math.ListN.{set, length-set}
-use Rattle.std.specs.Prelude.{AllPairs, Vec, slice_get}
+use Rattle.std.specs.Prelude.{AllPairs, Vec}
 use Rattle.std.specs.Global.{Global}
 use Rattle.std.specs.List.{filter, list_any}
-use Rattle.std.specs.Option.{option_map_or}
 use Rattle.std.proofs.lemmas.Bool.{false≢true, true≢false, ne_eqb, cases_eq}
 use Rattle.std.proofs.lemmas.List.{get_or_default, length-append}
-use Rattle.std.proofs.lemmas.Option.{none-some, same_Some, slice_get_within}
+use Rattle.std.proofs.lemmas.Option.{none-some, same_Some}
 use Rattle.std.proofs.lemmas.List.Elements.{Contains-append_left, Contains-append_right, Contains-push, Contains-push_cases}
 use Rattle.std.proofs.lemmas.List.Kept.{AllPairs-filter}
 use Rattle.std.proofs.lemmas.List.Quantifiers.{all_pairs_push}
@@ -85,27 +84,6 @@ any-without this one (x ∷ xs) = elim (cases_eq x this) [
 
 -- ---- the lists of the waits for each mutex
 
-pub queue-set_same : (lists : List (Vec Queued Global)) (m : ℕ) (list : Vec Queued Global) → m < length lists →
-    queue_in (set lists m list) m ≡ list.items
-queue-set_same [] m list inside = absurd (omega (arith, inside))
-queue-set_same (x ∷ xs) zero list inside = refl
-queue-set_same (x ∷ xs) (suc m) list inside = queue-set_same xs m list (omega (arith, inside))
-
-pub queue-set_other : (lists : List (Vec Queued Global)) (m : ℕ) (list : Vec Queued Global) (one : ℕ) → one ≢ m →
-    queue_in (set lists m list) one ≡ queue_in lists one
-queue-set_other [] m list one ne = refl
-queue-set_other (x ∷ xs) zero list zero ne = absurd (ne refl)
-queue-set_other (x ∷ xs) zero list (suc one) ne = refl
-queue-set_other (x ∷ xs) (suc m) list zero ne = refl
-queue-set_other (x ∷ xs) (suc m) list (suc one) ne = queue-set_other xs m list one (λ e. ne (ap suc e))
-
-pub queue-at : (lists : List (Vec Queued Global)) (m : ℕ) (list : Vec Queued Global) → slice_get lists m ≡ Some list →
-    queue_in lists m ≡ list.items
-queue-at lists m list got = ap (λ o. option_map_or (λ (one : Vec Queued Global). one.items) o []) got
-
-pub queue-past : (lists : List (Vec Queued Global)) (m : ℕ) → slice_get lists m ≡ None → queue_in lists m ≡ []
-queue-past lists m none = ap (λ o. option_map_or (λ (one : Vec Queued Global). one.items) o []) none
-
 -- an empty list behind the others is that of no wait
 pub queue-push : (lists : List (Vec Queued Global)) (list : Vec Queued Global) (one : ℕ) → list.items ≡ [] →
     queue_in (lists ++ list ∷ []) one ≡ queue_in lists one
@@ -113,21 +91,6 @@ queue-push [] list zero none = none
 queue-push [] list (suc one) none = refl
 queue-push (x ∷ xs) list zero none = refl
 queue-push (x ∷ xs) list (suc one) none = queue-push xs list one none
-
--- the list of one mutex becomes another one
-pub queue-changed : (old new : List (Vec Queued Global)) (m : ℕ) (before after : Vec Queued Global)
-    (by : List Queued → List Queued) → slice_get old m ≡ Some before → new ≡ set old m after →
-    after.items ≡ by before.items → (one : ℕ) → queue_in new one ≡ cond (one == m) (by (queue_in old one)) (queue_in old one)
-queue-changed old new m before after by got is does one = elim (cases_eq one m) [
-  | inl same ↦
-      ap (λ l. queue_in l one) is ∙ ap (queue_in (set old m after)) same
-      ∙ queue-set_same old m after (slice_get_within old m before got) ∙ does
-      ∙ ap by (sym (ap (queue_in old) same ∙ queue-at old m before got))
-      ∙ sym (ap (λ b. cond b (by (queue_in old one)) (queue_in old one)) (eq-eqb one m same))
-  | inr ne ↦
-      ap (λ l. queue_in l one) is ∙ queue-set_other old m after one ne
-      ∙ sym (ap (λ b. cond b (by (queue_in old one)) (queue_in old one)) (ne_eqb one m ne))
-]
 
 -- ---- the mutexes for which threads wait
 

@@ -1,5 +1,5 @@
 -- Until when who is noted takes part.
-use Rattle.std.proofs.Common.{◌≡◌, ℕ, ◌-◌, ◌^◌, ◌<◌, ◌≤◌, ◌∙◌, List, length, min, Option, Some, inl, inr, refl, subst, sym}
+use Rattle.std.proofs.Common.{◌≡◌, ℕ, ◌-◌, ◌^◌, ◌<◌, ◌≤◌, ◌∙◌, List, length, min, Option, Some, inl, inr, subst, sym}
 use Rattle.pim_course.specs.Courses.{mutex_in, thread_in}
 use Rattle.pim_course.specs.declared.course.Course.{Course}
 use Rattle.pim_numbers.specs.declared.participants.Participant.{Participant}
@@ -68,14 +68,6 @@ last-then old mid new First Then All in_first in_then first then one participant
         | inr at ↦ inr (so.last ∙ at.0, in_first one at.1)
       ]
     ]
-
--- nobody but who did so takes part up to the end
-pub stay-none : (participants : Participants) (All : ℕ → ℕ → Type 0) → EndOrStay participants participants All
-stay-none participants All =
-    record {
-      threads = λ one participant is. inl (record { before = participant; took = is; last = refl });
-      mutexes = λ one participant is. inl (record { before = participant; took = is; last = refl });
-    }
 
 -- some take part up to the end, and others then
 pub stay-then : (old mid new : Participants) (First Then All : ℕ → ℕ → Type 0) →

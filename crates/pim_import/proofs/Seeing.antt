@@ -329,10 +329,6 @@ waiters-more course sections n old new last one stay t m i awaits = elim (cases_
       (subst (λ j. (thread_in course j).section ≡ Some i) at awaits.section) awaits.kept)
 ]
 
-pub owners-none : (course : Course) (sections : CriticalSections) (participants : Participants) →
-    OwnersStay course sections 1 participants
-owners-none course sections participants t m i owns = absurd (omega (arith, owns.above, owns.below))
-
 pub waiters-none : (course : Course) (sections : CriticalSections) (participants : Participants) →
     WaitersStay course sections 1 participants
 waiters-none course sections participants t m i awaits = absurd (omega (arith, awaits.above, awaits.below))

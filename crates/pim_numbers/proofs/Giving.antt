@@ -1,6 +1,7 @@
 -- What is known of those who have been given numbers, and that it stays so when one more is given one.
 use Rattle.std.proofs.Common.{◌≡◌, ◌≢◌, ◌⊎◌, ℕ, zero, suc, ◌+◌, ◌-◌, ◌<◌, ◌≤◌, ◌∷◌, [], Bool, true, false, List}
-use Rattle.std.proofs.Common.{Option, None, Some, length, get_or, set, sym, refl, ◌∙◌, ap, subst, inl, inr, arith, get_or-set_other}
+use Rattle.std.proofs.Common.{Option, None, Some, length, get_or, set, sym, refl, ◌∙◌, ap, subst, inl, inr}
+use Rattle.std.proofs.Common.{arith, get_or-set_other}
 use Rattle.std.proofs.lemmas.Bool.{cases_eq, cases_lt, cases_order}
 use Rattle.std.proofs.lemmas.Grind.{get_or-set_at}
 use Rattle.std.specs.Prelude.{IsSome, MatchOption, is_some}
@@ -366,15 +367,6 @@ pub none_apart : (participants : List (Option Participant)) (numbers : Numbers) 
     ((one : ℕ) → number_in numbers one ≡ None) → AreApart participants numbers
 none_apart participants numbers none a b n one other apart is also there too =
     absurd (no_value n (number_in numbers a) (none a) is)
-
--- two that have different numbers don't share one
-pub own_apart : (participants : List (Option Participant)) (numbers : Numbers) → HaveOwn numbers →
-    AreApart participants numbers
-own_apart participants numbers own a b n one other apart is also there too = absurd (apart (own a b n is also))
-
--- mutexes that have different numbers share no protocol with another
-pub own_family : (sources : Sources) (numbers : Numbers) → HaveOwn numbers → ShareFamily sources numbers
-own_family sources numbers own a b n is also = ap (λ m. family_in sources m) (own a b n is also)
 
 -- those with one number have one protocol where mutexes of one protocol have been given more
 pub family_next : (sources : Sources) (participants : List (Option Participant)) (family : Family)

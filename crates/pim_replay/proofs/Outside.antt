@@ -11,7 +11,7 @@ use Rattle.pim_replay.specs.Replays.{ReplayState, IsInOrder, awaited, mutex_of, 
 use Rattle.pim_replay.specs.Queued.{IsOutside, waits_among}
 use Rattle.pim_replay.proofs.Comparing.{program_wait-past}
 use Rattle.pim_replay.proofs.Counting.{one}
-use Rattle.pim_replay.proofs.Ordering.{known_none, known_next}
+use Rattle.pim_replay.proofs.Ordering.{known_next}
 
 -- ---- the first one so far
 
@@ -27,9 +27,6 @@ pub record IsFirstOutside (r : ReplayState) (m from n : ℕ) (first : Option (�
   pub outside : IfSome first (λ f. IsOutside r f.0 m from f.1)
   pub least : IfSome first (λ f. (t : ℕ) → 1 ≤ t → t ≤ n → StartsFrom r m from f.1.ticket t)
   pub none : IfNone first ((t : ℕ) → 1 ≤ t → t ≤ n → NotOutside r m from t)
-
-pub outside_none : (r : ReplayState) (m from : ℕ) → IsFirstOutside r m from 0 None
-outside_none r m from = record { outside = tt; least = tt; none = known_none (NotOutside r m from) }
 
 -- one more task waits outside, before the first so far
 pub outside_taken :

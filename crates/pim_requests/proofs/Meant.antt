@@ -6,14 +6,13 @@ use Rattle.std.specs.Option.{option_map_or}
 use Rattle.pim_log.specs.Events.{mutex_of}
 use Rattle.pim_log.specs.Headers.{end_of, header_of}
 use Rattle.pim_log.specs.Logs.{IsLog, IsNumbered}
-use Rattle.pim_log.specs.declared.mutex.Mutex.{Mutex}
 use Rattle.pim_log.specs.declared.record.Record.{Record}
 use Rattle.pim_facts.specs.Addresses.{Addresses, KnowsPlaces, addresses_of, after_record, behind}
 use Rattle.pim_facts.specs.Naming.{AreBelow}
 use Rattle.pim_facts.specs.declared.places.Places.{Places}
 use Rattle.pim_facts.proofs.Meant.{up-to-end}
 use Rattle.pim_facts.proofs.Naming.{below-lacks}
-use Rattle.pim_requests.specs.Asked.{ArePutBy, EndsWhole, IsBegunBy, IsIn, IsLater}
+use Rattle.pim_requests.specs.Asked.{EndsWhole, IsBegunBy, IsIn, IsLater}
 use Rattle.pim_requests.specs.Searching.{IsPutBy, KnowsNames}
 use Rattle.pim_requests.proofs.Granting.{one-record}
 use Rattle.pim_requests.specs.declared.names.Names.{Names}
@@ -52,17 +51,6 @@ names-first bytes names knows = record {
   latest = λ r has lt. let above : 0 < r.number = has.numbered.above in absurd (omega (arith, lt, above));
 }
 
--- with places that know as much
-pub names-kept : (bytes : List ℕ) (n : ℕ) (old new : Names) → new.latest ≡ old.latest →
-    ((rs : List Record) → KnowsPlaces (addresses_of rs) old.places → KnowsPlaces (addresses_of rs) new.places) →
-    KnowsNames bytes n old → KnowsNames bytes n new
-names-kept bytes n old new same kept names = record {
-  before = names.before;
-  are = names.are;
-  knows = kept names.before names.knows;
-  latest = subst (λ t. ArePutBy bytes n t) (sym same) names.latest;
-}
-
 -- behind a record
 pub names-on : (bytes : List ℕ) (r : Record) (old new : Names) → IsLog bytes → IsIn bytes r → old.latest ≤ new.latest →
     unwrap_or r.time 0 ≤ new.latest →
@@ -85,12 +73,6 @@ names-on bytes r old new log has later own reads names = record {
         subst (λ (x : Record). IfSome x.time (λ put. put ≤ new.latest)) (sym same) (put-here r.time new.latest own)
   ];
 }
-
--- with a record of a mutex
-pub after-some : (known : Addresses) (r : Record) (mutex : Mutex) (places : Places) → mutex_of r.event ≡ Some mutex →
-    KnowsPlaces (behind known r mutex) places → KnowsPlaces (after_record r known) places
-after-some known r mutex places is knows =
-    subst (λ o. KnowsPlaces (option_map_or (behind known r) o known) places) (sym is) knows
 
 -- with a record of no mutex
 pub after-none : (known : Addresses) (r : Record) (places : Places) → mutex_of r.event ≡ None → KnowsPlaces known places →
