@@ -571,7 +571,7 @@ pub level_only :
     → KeepsOthers context fact a (record a { program = q })
 level_only context fact a p q level task is looked =
     let c : Changed = record { base = task; wait = None; owner = None; ceiling = None } in
-    sets_only context fact a p q c (λ l e. absurd (cc (sym is ∙ e))) (subst IsSetting (sym is) tt)
+    sets_only context fact a p q c (λ l e. absurd (cc (sym is ∙ e))) (subst IsSetting (sym is) refl)
     (subst (λ w. AreOf context a (changed_by_fact w fact.thread) c) (sym is)
     (record { base = sym looked; wait = refl; owner = refl; ceiling = refl }))
 
@@ -584,7 +584,7 @@ pub ceiling_only :
     → KeepsOthers context fact a (record a { program = q })
 ceiling_only context fact a p q m level number is looked =
     let c : Changed = record { base = None; wait = None; owner = None; ceiling = number } in
-    sets_only context fact a p q c (λ l e. absurd (cc (sym is ∙ e))) (subst IsSetting (sym is) tt)
+    sets_only context fact a p q c (λ l e. absurd (cc (sym is ∙ e))) (subst IsSetting (sym is) refl)
     (subst (λ w. AreOf context a (changed_by_fact w fact.thread) c) (sym is)
     (record { base = refl; wait = refl; owner = refl; ceiling = sym looked }))
 

@@ -112,10 +112,9 @@ module _ (context : Context) (latest : Dated) (facts : List Dated) (u v : View)
   held_by_setting :
       (w : What)
       → latest.fact.what ≡ w
-      → used_mutex w ≡ None
       → IsSetting w
       → AreHeldBy context (latest ∷ facts) v
-  held_by_setting w is none sets =
+  held_by_setting w is sets =
       let setting : IsSetting latest.fact.what = subst IsSetting (sym is) sets in
       record {
         threads = λ k.
@@ -123,11 +122,11 @@ module _ (context : Context) (latest : Dated) (facts : List Dated) (u v : View)
             ∙ before.threads k
             ∙ sym (last_still context.numbering.now.threads acting_thread latest facts
             (ap (λ w. option_map (λ m. latest.fact.thread) (used_mutex w)) is
-            ∙ ap (option_map (λ m. latest.fact.thread)) none) k);
+            ∙ ap (option_map (λ m. latest.fact.thread)) sets) k);
         mutexes = λ n.
             ap (λ o. unwrap_or o None) (keeps.mutexes n (λ begins. begins.0 setting))
             ∙ before.mutexes n
-            ∙ sym (last_still context.numbering.now.mutexes acting_mutex latest facts (ap used_mutex is ∙ none) n);
+            ∙ sym (last_still context.numbering.now.mutexes acting_mutex latest facts (ap used_mutex is ∙ sets) n);
       }
 
   -- by a fact that the trace shows, or that sets the level or the ceiling of one who has no number
@@ -149,8 +148,8 @@ module _ (context : Context) (latest : Dated) (facts : List Dated) (u v : View)
   held_more r priority (what.Waits m) is (inr none) = absurd none
   held_more r priority (what.GaveUp m) is (inr none) = absurd none
   held_more r priority (what.Released m next) is (inr none) = absurd none
-  held_more r priority (what.Level level) is either = held_by_setting (what.Level level) is refl tt
-  held_more r priority (what.Ceiling m level) is either = held_by_setting (what.Ceiling m level) is refl tt
+  held_more r priority (what.Level level) is either = held_by_setting (what.Level level) is refl
+  held_more r priority (what.Ceiling m level) is either = held_by_setting (what.Ceiling m level) is refl
 
 -- one has its number exactly if it acted last of those that have it
 holds_number_now :

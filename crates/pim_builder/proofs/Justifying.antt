@@ -139,8 +139,8 @@ cannot_show context time fact m a (what.GaveUp l) its acts =
     subst (λ i. CannotAct context time fact i a) (sym (same_Some l m its))
 cannot_show context time fact m a (what.Released l next) its acts =
     subst (λ i. CannotAct context time fact i a) (sym (same_Some l m its))
-cannot_show context time fact m a (what.Level level) its acts = absurd (acts tt)
-cannot_show context time fact m a (what.Ceiling l level) its acts = absurd (acts tt)
+cannot_show context time fact m a (what.Level level) its acts = absurd (acts refl)
+cannot_show context time fact m a (what.Ceiling l level) its acts = absurd (acts refl)
 
 -- ---- what is shown
 

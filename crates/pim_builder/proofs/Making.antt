@@ -1,5 +1,6 @@
 -- What comes of a trace behind a fact that sets a level or a ceiling, or before which a piece ends.
 use Rattle.std.proofs.Common.{◌≡◌, ◌∙◌, refl, sym, subst, ℕ, None}
+use Rattle.std.proofs.lemmas.Option.{none-some}
 use Rattle.pim_facts.specs.declared.fact.Fact.{Fact}
 use Rattle.pim_facts.specs.declared.fact.What.{What}
 use Rattle.pim_facts.specs.declared.fact.What.TheVariants as what
@@ -33,10 +34,10 @@ pub record IsMade (context : Context) (time : ℕ) (fact : Fact) (a b : BuilderS
 
 -- a level or a ceiling changes no owner
 no_owner : (w : What) (t : ℕ) → IsSetting w → (changed_by_fact w t).owner ≡ None
-no_owner (what.Granted m) t none = absurd none
-no_owner (what.Waits m) t none = absurd none
-no_owner (what.GaveUp m) t none = absurd none
-no_owner (what.Released m next) t none = absurd none
+no_owner (what.Granted m) t none = absurd (none-some m (sym none))
+no_owner (what.Waits m) t none = absurd (none-some m (sym none))
+no_owner (what.GaveUp m) t none = absurd (none-some m (sym none))
+no_owner (what.Released m next) t none = absurd (none-some m (sym none))
 no_owner (what.Level level) t sets = refl
 no_owner (what.Ceiling m level) t sets = refl
 
@@ -51,7 +52,7 @@ pub setting_made :
 setting_made context time fact w a q is sets on others = record {
   on = extends_steps context time a q on;
   others = others;
-  queued = λ m waits. absurd (subst IsSetting (sym is ∙ waits) sets);
+  queued = λ m waits. absurd (none-some m (sym (subst IsSetting (sym is ∙ waits) sets)));
   given = none_given a.pieces q (mutex_now context a) fact.what w fact.thread is (no_owner w fact.thread sets);
 }
 

@@ -55,15 +55,6 @@ abbrev pub Joins : Context → BuilderState → Fact → Type 0
 Joins context builder fact =
     JoinsQueueBy builder.pieces.piece.replay (task_now context builder) (mutex_now context builder) fact.what fact.thread
 
--- a level or a ceiling is set, which is in the trace only if its thread or mutex has a number then
-abbrev pub IsSetting : What → Type 0
-IsSetting (Granted m) = ⊥
-IsSetting (Released m next) = ⊥
-IsSetting (Waits m) = ⊥
-IsSetting (GaveUp m) = ⊥
-IsSetting (Ceiling m level) = Unit {0}
-IsSetting (Level level) = Unit {0}
-
 -- the mutex with which a thread acts: it is granted it, waits for it, gives up or releases it; a level or a ceiling is no act
 abbrev pub used_mutex : What → Option ℕ
 used_mutex (Granted m) = Some m
@@ -72,6 +63,10 @@ used_mutex (Waits m) = Some m
 used_mutex (GaveUp m) = Some m
 used_mutex (Ceiling m level) = None
 used_mutex (Level level) = None
+
+-- a level or a ceiling is set, which is in the trace only if its thread or mutex has a number then
+abbrev pub IsSetting : What → Type 0
+IsSetting what = used_mutex what ≡ None
 
 -- the level or the ceiling is set of a thread or a mutex that has no number
 abbrev pub SetsNone : (ℕ → Option ℕ) → (ℕ → Option ℕ) → What → ℕ → Type 0

@@ -1,4 +1,4 @@
-use Rattle.std.proofs.Common.{rules, ◌≡◌, None, Some, subst, sym}
+use Rattle.std.proofs.Common.{rules, ◌≡◌, None, Some, refl, subst, sym}
 use Rattle.pim_facts.specs.declared.fact.What.TheVariants as what
 use Rattle.pim_base.specs.State.{IsMutex, IsTask}
 use Rattle.pim_replay.specs.Replays.{Program}
@@ -21,7 +21,7 @@ returns-in_ok-observe-in-Level c =
     let made =
     subst (λ a. IsMade c.args.context.now c.args.now.now.time c.args.fact.now a n) c.self.view_is
     (setting_made c.args.context.now c.args.now.now.time c.args.fact.now (what.Level c.in-Level.level)
-    (of_fields c.self.inside) c.observe.new.self c.in-Level.is tt c.in_ok-observe-in-Level.ensures.on
+    (of_fields c.self.inside) c.observe.new.self c.in-Level.is refl c.in_ok-observe-in-Level.ensures.on
     (level_only c.args.context.now c.args.fact.now (view_of (of_fields c.self.inside)) before
     (program_at c.observe.new.self) c.in-Level.level (Some c.in-Some.task) c.in-Level.is task (same_refl before)
     (by_observation before (program_at c.observe.new.self) (Base c.in-Some.task c.of_level-prio.result)
@@ -55,7 +55,7 @@ returns-in_ok-observe-in-Ceiling c =
     subst (λ a. IsMade c.args.context.now c.args.now.now.time c.args.fact.now a n) c.self.view_is
     (setting_made c.args.context.now c.args.now.now.time c.args.fact.now
     (what.Ceiling c.in-Ceiling.mutex c.in-Ceiling.level) (of_fields c.self.inside) c.observe-in-Ceiling.new.self
-    c.in-Ceiling.is tt c.in_ok-observe-in-Ceiling.ensures.on
+    c.in-Ceiling.is refl c.in_ok-observe-in-Ceiling.ensures.on
     (ceiling_only c.args.context.now c.args.fact.now (view_of (of_fields c.self.inside)) before
     (program_at c.observe-in-Ceiling.new.self) c.in-Ceiling.mutex c.in-Ceiling.level (Some c.in-Some-mutex_of.mutex)
     c.in-Ceiling.is number (same_refl before)
@@ -88,7 +88,7 @@ pub returns-in_default : goal.returns-in_default
 returns-in_default c =
     let made =
     setting_made c.args.context.now c.args.now.now.time c.args.fact.now (what.Level c.in-Level.level) c.args.self.now
-    c.args.self.now.pieces c.in-Level.is tt (goes_on_refl c.args.now.now.time c.args.self.now.pieces)
+    c.args.self.now.pieces c.in-Level.is refl (goes_on_refl c.args.now.now.time c.args.self.now.pieces)
     (level_only c.args.context.now c.args.fact.now (view_of c.args.self.now) (program_at c.args.self.now.pieces)
     (program_at c.args.self.now.pieces) c.in-Level.level None c.in-Level.is c.in_default.ensures.task
     (same_refl (program_at c.args.self.now.pieces)) (none_changed (program_at c.args.self.now.pieces))) in
@@ -108,7 +108,7 @@ pub returns-in_default-mutex_of : goal.returns-in_default-mutex_of
 returns-in_default-mutex_of c =
     let made =
     setting_made c.args.context.now c.args.now.now.time c.args.fact.now (what.Ceiling c.in-Ceiling.mutex c.in-Ceiling.level)
-    c.args.self.now c.args.self.now.pieces c.in-Ceiling.is tt
+    c.args.self.now c.args.self.now.pieces c.in-Ceiling.is refl
     (goes_on_refl c.args.now.now.time c.args.self.now.pieces)
     (ceiling_only c.args.context.now c.args.fact.now (view_of c.args.self.now) (program_at c.args.self.now.pieces)
     (program_at c.args.self.now.pieces) c.in-Ceiling.mutex c.in-Ceiling.level None c.in-Ceiling.is
