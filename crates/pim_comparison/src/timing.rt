@@ -188,12 +188,13 @@ impl Timing {
     /// Finds the waits whose requests neither the log nor the trace has.
     fn take_unknown(&mut self, imported: &Imported, tracks: &Tracks) -> Result<(), AllocError> {
         for thread in &imported.sources.ids.threads {
-            if let Some(track) = track_of(tracks, thread) {
-                for call in &track.calls {
-                    let is_wait = call.waited_from().is_some();
-                    if is_wait && self.known.get(&(track.task, call.begin)).is_none() {
-                        self.unknown.push((call.begin, end_of(call)))?;
-                    }
+            let Some(track) = track_of(tracks, thread) else {
+                continue;
+            };
+            for call in &track.calls {
+                let is_wait = call.waited_from().is_some();
+                if is_wait && self.known.get(&(track.task, call.begin)).is_none() {
+                    self.unknown.push((call.begin, end_of(call)))?;
                 }
             }
         }

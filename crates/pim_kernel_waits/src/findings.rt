@@ -140,15 +140,17 @@ fn waits_in(
     let mut waits = Vec::new(alloc);
     let mut left_out = 0u64;
     for task in callers {
-        if let Some(track) = tracks.of_task(*task) {
-            for call in &track.calls {
-                if let Some(wait) = wait_of(recording, *task, call) {
-                    if meets(&lost, wait.began, wait.began.saturating_add(wait.lasted)) {
-                        left_out = left_out.saturating_add(1);
-                    } else if waits.push(wait).is_err() {
-                        return Err(AllocError);
-                    }
-                }
+        let Some(track) = tracks.of_task(*task) else {
+            continue;
+        };
+        for call in &track.calls {
+            let Some(wait) = wait_of(recording, *task, call) else {
+                continue;
+            };
+            if meets(&lost, wait.began, wait.began.saturating_add(wait.lasted)) {
+                left_out = left_out.saturating_add(1);
+            } else if waits.push(wait).is_err() {
+                return Err(AllocError);
             }
         }
     }

@@ -1,6 +1,6 @@
 //! What was given last, by whom.
 ghost use Rattle.std.specs.Prelude.{◌≡◌, ℕ, IfOk, None, Some, if◌then◌else◌, not, ◌==◌, ◌&&◌};
-ghost use Rattle.pim_other_waits.specs.Waits.{given_by, gift_of, same_awaited};
+ghost use Rattle.pim_other_waits.specs.Waits.{given_by, same_awaited};
 ghost use Rattle.pim_other_waits.specs.Tables.{gift_after, gift_in};
 
 use crate::wait::{Awaited, Gift};
