@@ -1,11 +1,14 @@
 -- Sums over numbers, and sections at the same mutexes.
-use Rattle.std.proofs.Common.{◌≡◌, ℕ, zero, suc, ◌+◌, ◌<◌, ◌≤◌, ◌&&◌, nat_lt, not, ◌==◌, Bool, cond, List, [], ◌∷◌, length, get_or, filter, Contains, refl, sym, ap, subst, ◌∙◌, arith, inl, inr}
+use Rattle.std.proofs.Common.{◌≡◌, ℕ, zero, suc, ◌+◌, ◌<◌, ◌≤◌, ◌&&◌, nat_lt, not, ◌==◌, Bool, cond, List, []}
+use Rattle.std.proofs.Common.{◌∷◌, length, get_or, filter, Contains, refl, sym, ap, subst, ◌∙◌, arith, inl}
+use Rattle.std.proofs.Common.{inr}
 use Rattle.std.proofs.lemmas.Bool.{and_parts, cases_lt, le-ltb, lt-ltb, ltb-true}
 use Rattle.std.specs.Bool.{IsTrue}
 use Rattle.pim_blocking.specs.declared.section.Section.{Section}
 use Rattle.pim_blocking.specs.declared.bounds.Per.{Per}
 use Rattle.pim_blocking.specs.declared.bounds.Bound.{Bound}
-use Rattle.pim_blocking.specs.Bounds.{IsBound, blocking, blocks, capped, is_used, is_used_below, longest_of_number, sum_below, sum_of_longest}
+use Rattle.pim_blocking.specs.Bounds.{IsBound, blocking, blocks, capped, is_used, is_used_below}
+use Rattle.pim_blocking.specs.Bounds.{longest_of_number, sum_below, sum_of_longest}
 use Rattle.pim_blocking.specs.Reached.{IsReached, by_nesting, by_use, is_in}
 use Rattle.pim_blocking.proofs.Reaching.{outside}
 

@@ -1,5 +1,6 @@
 -- The bounds that are listed after one thread more.
-use Rattle.std.proofs.Common.{◌≡◌, ◌∙◌, ◌<◌, ℕ, suc, ◌+◌, Bool, true, false, cond, List, [], ◌∷◌, ◌++◌, insert, take, refl, sym, ap, subst, arith}
+use Rattle.std.proofs.Common.{◌≡◌, ◌∙◌, ◌<◌, ℕ, suc, ◌+◌, Bool, true, false, cond, List, [], ◌∷◌, ◌++◌}
+use Rattle.std.proofs.Common.{insert, take, refl, sym, ap, subst, arith}
 use Rattle.std.specs.List.{filter, position_or_len}
 use Rattle.std.specs.Bool.{IsTrue}
 use Rattle.std.proofs.lemmas.List.{append-nil}
@@ -10,7 +11,8 @@ use Rattle.pim_blocking.specs.declared.bounds.Bound.{Bound}
 use Rattle.pim_blocking.specs.declared.bounds.TheConstants.{BOUNDS}
 use Rattle.pim_blocking.specs.Blocked.{is_real_time}
 use Rattle.pim_blocking.specs.Ordered.{IsOrderedBy}
-use Rattle.pim_blocking.specs.Listed.{AreListed, AreOfThreads, IsBoundOf, and_thread, but_thread, is_blocked, is_greater, no_thread}
+use Rattle.pim_blocking.specs.Listed.{AreListed, AreOfThreads, IsBoundOf, and_thread, but_thread, is_blocked}
+use Rattle.pim_blocking.specs.Listed.{is_greater, no_thread}
 use Rattle.pim_blocking.proofs.Bounding.{bound-inner}
 use Rattle.pim_blocking.proofs.Placing.{first-placed, placed}
 use Rattle.pim_blocking.proofs.Ranking.{placed-permutes, placed-sorted, placed-stable}

@@ -1,6 +1,9 @@
 -- What is known of sections after one more fact.
-use Rattle.std.proofs.Common.{◌≡◌, ◌≢◌, ◌↔◌, ◌≤◌, ◌<◌, ◌==◌, ◌&&◌, ◌∙◌, ℕ, nat_lt, Bool, true, false, true≢false, cond, max, List, ◌∷◌, length, get_or, Option, Some, None, unwrap_or, Result, Ok, Err, IfOk, map, Contains, sym, ap, refl, subst, inl, inr, eq-eqb}
-use Rattle.std.proofs.lemmas.Bool.{and_from, and_left, and_right, cases_eq, cases_lt, cond-false, cond-true, le-ltb, lt-ltb, ne_eqb}
+use Rattle.std.proofs.Common.{◌≡◌, ◌≢◌, ◌↔◌, ◌≤◌, ◌<◌, ◌==◌, ◌&&◌, ◌∙◌, ℕ, nat_lt, Bool, true, false}
+use Rattle.std.proofs.Common.{true≢false, cond, max, List, ◌∷◌, length, get_or, Option, Some, None, unwrap_or}
+use Rattle.std.proofs.Common.{Result, Ok, Err, IfOk, map, Contains, sym, ap, refl, subst, inl, inr, eq-eqb}
+use Rattle.std.proofs.lemmas.Bool.{and_from, and_left, and_right, cases_eq, cases_lt, cond-false, cond-true}
+use Rattle.std.proofs.lemmas.Bool.{le-ltb, lt-ltb, ne_eqb}
 use Rattle.std.proofs.lemmas.List.{get_or-map, get_or_past, length-map}
 use Rattle.std.proofs.lemmas.List.Sorted.{Contains-permutation, IsPermutation-sym}
 use Rattle.std.proofs.lemmas.Map.Views.{hash_map_get_iff}
@@ -16,7 +19,8 @@ use Rattle.pim_blocking.specs.declared.section.Section.{Section}
 use Rattle.pim_blocking.specs.declared.section.User.{User}
 use Rattle.pim_blocking.specs.declared.sections.Open.{Open}
 use Rattle.pim_blocking.specs.declared.sections.Sections.{Sections}
-use Rattle.pim_blocking.specs.Observed.{AreLongest, KeepsAll, KnowsSections, Moment, after_own, and_ended, and_shown, ended_sections, longest_by, open_at, open_by, user_of}
+use Rattle.pim_blocking.specs.Observed.{AreLongest, KeepsAll, KnowsSections, Moment, after_own, and_ended}
+use Rattle.pim_blocking.specs.Observed.{and_shown, ended_sections, longest_by, open_at, open_by, user_of}
 use Rattle.pim_blocking.specs.Sections.{same_user}
 use Rattle.pim_blocking.specs.Steps.{KeepsLongest}
 use Rattle.pim_blocking.proofs.Keeping.{same, same-parts}

@@ -1,7 +1,11 @@
 -- The sections that make a sum.
-use Rattle.std.proofs.Common.{◌≡◌, ◌≢◌, ◌⊎◌, ◌∙◌, ◌+◌, ◌<◌, ◌≤◌, ◌==◌, ℕ, Bool, true, false, cond, max, nat_le, List, [], ◌∷◌, ◌++◌, length, get_or, take, drop, set, refl, sym, ap, subst, inl, inr, arith, eq-eqb, length-set, append_assoc, get_or-set_same, get_or-set_other}
+use Rattle.std.proofs.Common.{◌≡◌, ◌≢◌, ◌⊎◌, ◌∙◌, ◌+◌, ◌<◌, ◌≤◌, ◌==◌, ℕ, Bool, true, false, cond, max}
+use Rattle.std.proofs.Common.{nat_le, List, [], ◌∷◌, ◌++◌, length, get_or, take, drop, set, refl, sym, ap}
+use Rattle.std.proofs.Common.{subst, inl, inr, arith, eq-eqb, length-set, append_assoc, get_or-set_same}
+use Rattle.std.proofs.Common.{get_or-set_other}
 use Rattle.std.specs.List.{filter, fold}
-use Rattle.std.proofs.lemmas.Bool.{and_from, and_parts, cases_eq, ne_eqb, cond-false, cond-true, le-leb, leb-true, lt-leb, lt-ltb, ltb-true}
+use Rattle.std.proofs.lemmas.Bool.{and_from, and_parts, cases_eq, ne_eqb, cond-false, cond-true, le-leb}
+use Rattle.std.proofs.lemmas.Bool.{leb-true, lt-leb, lt-ltb, ltb-true}
 use Rattle.std.proofs.lemmas.List.{drop_more, take-append-drop, take_more}
 use Rattle.std.proofs.lemmas.List.Elements.{filter-append}
 use Rattle.std.proofs.lemmas.List.Sums.{fold-append}
@@ -9,7 +13,8 @@ use Rattle.pim_blocking.specs.declared.section.Section.{Section}
 use Rattle.pim_blocking.specs.declared.bounds.Per.{Per}
 use Rattle.pim_blocking.specs.declared.bounds.Per.TheVariants as per
 use Rattle.pim_blocking.specs.Ordered.{IsOrderedBy}
-use Rattle.pim_blocking.specs.Bounds.{first_longest, is_first_longest, is_longer, longest_in, longest_of_number, number_of, sum_of_longest, summed}
+use Rattle.pim_blocking.specs.Bounds.{first_longest, is_first_longest, is_longer, longest_in}
+use Rattle.pim_blocking.specs.Bounds.{longest_of_number, number_of, sum_of_longest, summed}
 
 -- ---- the longest of two lists
 

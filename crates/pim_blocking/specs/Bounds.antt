@@ -1,6 +1,7 @@
 -- What a thread can be blocked for by threads of lower levels: L. Sha, R. Rajkumar, J. P. Lehoczky, Priority Inheritance
 -- Protocols, 1990. The critical sections are those that were observed: a longer one isn't known.
-use Rattle.std.specs.Prelude.{◌≡◌, ◌↔◌, IsTrue, ℕ, zero, suc, ◌+◌, ◌==◌, nat_lt, nat_le, ◌&&◌, ◌||◌, not, Bool, List, [], ◌∷◌, ◌++◌, filter, fold, max, min, if◌then◌else◌}
+use Rattle.std.specs.Prelude.{◌≡◌, ◌↔◌, IsTrue, ℕ, zero, suc, ◌+◌, ◌==◌, nat_lt, nat_le, ◌&&◌, ◌||◌, not}
+use Rattle.std.specs.Prelude.{Bool, List, [], ◌∷◌, ◌++◌, filter, fold, max, min, if◌then◌else◌}
 use Rattle.std.specs.List.{list_any}
 use Rattle.pim_blocking.specs.Ordered.{IsOrderedBy}
 use Rattle.pim_blocking.specs.Reached.{IsReached}

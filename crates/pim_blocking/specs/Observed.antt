@@ -1,5 +1,6 @@
 -- The critical sections that facts show.
-use Rattle.std.specs.Prelude.{◌≡◌, ◌↔◌, ℕ, zero, suc, ◌-◌, nat_lt, ◌&&◌, max, List, [], ◌∷◌, length, slice_index_or, if◌then◌else◌, Option, Some, None, unwrap_or, Contains}
+use Rattle.std.specs.Prelude.{◌≡◌, ◌↔◌, ℕ, zero, suc, ◌-◌, nat_lt, ◌&&◌, max, List, [], ◌∷◌, length}
+use Rattle.std.specs.Prelude.{slice_index_or, if◌then◌else◌, Option, Some, None, unwrap_or, Contains}
 use Rattle.std.specs.HashMap as hash
 use Rattle.pim_facts.specs.Shown.{mutex_of}
 use Rattle.pim_facts.specs.declared.fact.Fact.{Fact}

@@ -1,5 +1,6 @@
 -- Which mutexes are reached from others by nested sections.
-use Rattle.std.specs.Prelude.{◌≡◌, ℕ, ◌+◌, ◌<◌, ◌==◌, ◌⊎◌, ◌↔◌, Bool, false, not, List, [], length, map, filter, slice_get, slice_index_or, IsTrue, Contains, count_by}
+use Rattle.std.specs.Prelude.{◌≡◌, ℕ, ◌+◌, ◌<◌, ◌==◌, ◌⊎◌, ◌↔◌, Bool, false, not, List, [], length, map}
+use Rattle.std.specs.Prelude.{filter, slice_get, slice_index_or, IsTrue, Contains, count_by}
 use Rattle.std.specs.Option.{option_map_or}
 use Rattle.pim_deadlocks.specs.declared.nesting.Order.{Order}
 use Rattle.pim_blocking.specs.declared.nested.Nested.{Nested}

@@ -3,7 +3,8 @@
 ghost use Rattle.std.specs.Prelude.{◌≡◌, List, [], ◌∷◌, IfOk, None};
 ghost use Rattle.pim_facts.specs.declared.ids.Ids.{Ids};
 ghost use Rattle.pim_blocking.specs.Observed.{Moment};
-ghost use Rattle.pim_blocking.specs.Blocked.{KnowsThreads, and_level, and_waited, awaited_level, is_real_time, level_of, longest_after, since_after};
+ghost use Rattle.pim_blocking.specs.Blocked.{KnowsThreads, and_level, and_waited, awaited_level};
+ghost use Rattle.pim_blocking.specs.Blocked.{is_real_time, level_of, longest_after, since_after};
 
 use pim_course::{Course, Sources};
 use pim_facts::{Fact, LoggedThread, What};

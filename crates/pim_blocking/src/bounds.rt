@@ -1,11 +1,13 @@
 //! What threads of real-time priority can be blocked for, from what was observed.
-ghost use Rattle.std.specs.Prelude.{◌≡◌, ◌↔◌, IsTrue, ℕ, ◌<◌, nat_lt, List, [], ◌∷◌, length, take, insert, IfOk, slice_index_or, if◌then◌else◌};
+ghost use Rattle.std.specs.Prelude.{◌≡◌, ◌↔◌, IsTrue, ℕ, ◌<◌, nat_lt, List, [], ◌∷◌, length, take, insert};
+ghost use Rattle.std.specs.Prelude.{IfOk, slice_index_or, if◌then◌else◌};
 ghost use Rattle.std.specs.List.{position_or_len};
 ghost use Rattle.std.specs.Ordering.{is_lt};
 ghost use Rattle.pim_facts.specs.declared.ids.Ids.{Ids};
 ghost use Rattle.pim_blocking.specs.Observed.{Moment};
 ghost use Rattle.pim_blocking.specs.Ordered.{IsOrderedBy};
-ghost use Rattle.pim_blocking.specs.Bounds.{IsBound, blocking, blocks, capped, first_longest, is_longer, is_used, longest_in, longest_of_number, number_of, sum_below};
+ghost use Rattle.pim_blocking.specs.Bounds.{IsBound, blocking, blocks, capped, first_longest, is_longer};
+ghost use Rattle.pim_blocking.specs.Bounds.{is_used, longest_in, longest_of_number, number_of, sum_below};
 ghost use Rattle.pim_blocking.specs.Listed.{AreBounds, AreListed, Knows, is_blocked, is_greater};
 ghost use Rattle.pim_blocking.specs.Steps.{level_at, waited_at};
 ghost use Rattle.pim_blocking.specs.Reached.{inner_in, is_in};

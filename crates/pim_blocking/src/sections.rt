@@ -1,6 +1,8 @@
 //! The longest critical sections of a program.
-ghost use Rattle.std.specs.Prelude.{◌≡◌, ℕ, ◌==◌, ◌&&◌, nat_lt, List, [], ◌∷◌, length, if◌then◌else◌, Some, None, IfOk, OnOk};
-ghost use Rattle.pim_blocking.specs.Observed.{AreLongest, KeepsAll, KnowsSections, Moment, all_sections, and_ended, open_at, user_of};
+ghost use Rattle.std.specs.Prelude.{◌≡◌, ℕ, ◌==◌, ◌&&◌, nat_lt, List, [], ◌∷◌, length, if◌then◌else◌, Some};
+ghost use Rattle.std.specs.Prelude.{None, IfOk, OnOk};
+ghost use Rattle.pim_blocking.specs.Observed.{AreLongest, KeepsAll, KnowsSections, Moment, all_sections};
+ghost use Rattle.pim_blocking.specs.Observed.{and_ended, open_at, user_of};
 ghost use Rattle.pim_blocking.specs.Sections.{AreInOrder};
 ghost use Rattle.pim_blocking.specs.Steps.{KeepsLongest};
 ghost use Rattle.pim_blocking.specs.declared.section.Section as declared;

@@ -1,5 +1,6 @@
 //! The trace as it is made: who has which number at a time, and the steps of facts.
-ghost use Rattle.std.specs.Prelude.{IfOk, IfErr, IfSome, IsSome, IsTrue, ◌≡◌, All, ℕ, List, [], ◌∷◌, ◌≤◌, length, vec_len};
+ghost use Rattle.std.specs.Prelude.{IfOk, IfErr, IfSome, IsSome, IsTrue, ◌≡◌, All, ℕ, List, [], ◌∷◌, ◌≤◌};
+ghost use Rattle.std.specs.Prelude.{length, vec_len};
 ghost use Rattle.std.specs.Prelude.{None, Some, false};
 ghost use Rattle.std.specs.Option.{option_and_then};
 ghost use Rattle.pim_base.specs.Lists.{holds};

@@ -36,7 +36,8 @@ logged_spans ids mutex_waits others = filter_map (span_of_found ids) mutex_waits
 
 -- these are the waits that have no time in common with one of their threads in the log: with one of these waits for mutexes,
 -- or with one of the other waits of the log
-pub record AreUnlogged (bytes : List ℕ) (ids : Ids) (mutex_waits : List FoundWait) (waits kept : List FutexWait) : Type 0 where
+pub record AreUnlogged (bytes : List ℕ) (ids : Ids) (mutex_waits : List FoundWait)
+    (waits kept : List FutexWait) : Type 0 where
   pub others : List OtherWait
   pub are_others : AreOtherWaits bytes ids others
   pub are_outside : kept ≡ outside (logged_spans ids mutex_waits others) waits

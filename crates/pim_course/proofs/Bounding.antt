@@ -1,5 +1,6 @@
 -- How high the numbers of critical sections are: a record begins at most one, and so does a request that the log lacks.
-use Rattle.std.proofs.Common.{◌≡◌, ℕ, ◌+◌, ◌==◌, ◌<◌, ◌≤◌, cond, Bool, true, false, List, [], ◌∷◌, ◌++◌, map, Option, Some, None, is_none, sym, subst, arith}
+use Rattle.std.proofs.Common.{◌≡◌, ℕ, ◌+◌, ◌==◌, ◌<◌, ◌≤◌, cond, Bool, true, false, List, [], ◌∷◌, ◌++◌, map}
+use Rattle.std.proofs.Common.{Option, Some, None, is_none, sym, subst, arith}
 use Rattle.std.specs.List.{AllByRecursion}
 use Rattle.std.specs.Option.{option_map_or, unwrap_or}
 use Rattle.std.specs.Prelude.{IfSome}
@@ -15,8 +16,10 @@ use Rattle.pim_facts.specs.declared.fact.What.{What}
 use Rattle.pim_facts.specs.declared.fact.What.TheVariants.{Granted, Waits, GaveUp, Released, Level, Ceiling}
 use Rattle.pim_course.specs.Courses.{family_in}
 use Rattle.pim_course.specs.Reading.{GoesBy, HasAllOf, HasThoseOf}
-use Rattle.pim_course.specs.Sections.{AreNumbered, Sections, after_numbered, lasts_at, next_number, no_sections, number_at, number_of, sections_after, sections_of}
-use Rattle.pim_course.specs.Told.{Happening, added_told, ceiling_by_log, ceiling_told, depths_of, did, event_told, freed_told, gave_up_told, happened_in, happening, released_told}
+use Rattle.pim_course.specs.Sections.{AreNumbered, Sections, after_numbered, lasts_at, next_number}
+use Rattle.pim_course.specs.Sections.{no_sections, number_at, number_of, sections_after, sections_of}
+use Rattle.pim_course.specs.Told.{Happening, added_told, ceiling_by_log, ceiling_told, depths_of, did}
+use Rattle.pim_course.specs.Told.{event_told, freed_told, gave_up_told, happened_in, happening, released_told}
 use Rattle.pim_course.specs.World.{World, but_for, world_of}
 use Rattle.pim_course.specs.declared.course.Course.{Course}
 use Rattle.pim_course.specs.declared.course.Sources.{Sources}

@@ -4,7 +4,8 @@
 --
 -- The records behind one are in the order of their numbers, those before it the other way, so that the first is the nearest.
 use Rattle.std.specs.Prelude.{◌≡◌, ◌+◌, ◌-◌, ◌^◌, ◌<◌, ◌≤◌, ℕ, ◌==◌, nat_lt, Bool, false, true, ◌&&◌, ◌||◌, if◌then◌else◌}
-use Rattle.std.specs.Prelude.{List, [], ◌∷◌, length, slice_get, slice_index_or, find, is_none, is_some, IsSome, IfSome, Option, Some, None}
+use Rattle.std.specs.Prelude.{List, [], ◌∷◌, length, slice_get, slice_index_or, find, is_none, is_some}
+use Rattle.std.specs.Prelude.{IsSome, IfSome, Option, Some, None}
 use Rattle.std.specs.Option.{option_and_then, option_map_or, option_or}
 use Rattle.pim_log.specs.Logs.{IsNumbered, began_of}
 use Rattle.pim_log.specs.declared.event.Event.{Event}

@@ -10,7 +10,8 @@ use Rattle.pim_log.specs.declared.record.Record.{Record}
 use Rattle.pim_facts.specs.Levels.{id_of, level_by}
 use Rattle.pim_facts.specs.Naming.{IsAt}
 use Rattle.pim_facts.specs.declared.fact.LeftOut.{LeftOut}
-use Rattle.pim_facts.specs.declared.fact.LeftOut.TheVariants.{Absent, Remark, Unchanged, Again, Uncontended, Refused, NotOwner}
+use Rattle.pim_facts.specs.declared.fact.LeftOut.TheVariants.{Absent, Remark, Unchanged, Again, Uncontended}
+use Rattle.pim_facts.specs.declared.fact.LeftOut.TheVariants.{Refused, NotOwner}
 use Rattle.pim_facts.specs.declared.fact.LeftOut.TheVariants.{Revoked, Absentee}
 use Rattle.pim_course.specs.Courses.{family_in}
 use Rattle.pim_course.specs.Kept.{kept_of, never_was}

@@ -8,11 +8,11 @@ ghost use Rattle.pim_facts.specs.Levels.{id_in, id_of};
 ghost use Rattle.pim_facts.specs.Naming.{Names, last_begun, named_task};
 ghost use Rattle.pim_facts.specs.declared.ids.Ids.{Ids};
 ghost use Rattle.pim_log.specs.declared.record.Record.{Record};
-ghost use Rattle.pim_course.specs.AskedOwners.{AreTimed, FindsAskedFrom, HasAsked, IsAsked, KnowsCalls, is_after, may_own, named_owner, next_other, next_with_task, unnamed_kept};
+ghost use Rattle.pim_course.specs.AskedOwners.{AreTimed, FindsAskedFrom, HasAsked, IsAsked, KnowsCalls, is_after, may_own};
+ghost use Rattle.pim_course.specs.AskedOwners.{named_owner, next_other, next_with_task, unnamed_kept};
 ghost use Rattle.pim_course.specs.Kept.{granted_by_kept, kept_by, kept_of, never_was, next_by};
-ghost use Rattle.pim_course.specs.NextOwners.{CoversThose, FindsFrom, HasRoom, IsKeepable, IsKept, Knows};
-ghost use Rattle.pim_course.specs.NextOwners.{is_call, is_granted, is_of_release, is_release_failed, is_that};
-ghost use Rattle.pim_course.specs.NextOwners.{next_owner, release_kept, set_at};
+ghost use Rattle.pim_course.specs.NextOwners.{CoversThose, FindsFrom, HasRoom, IsKeepable, IsKept, Knows, is_call, is_granted};
+ghost use Rattle.pim_course.specs.NextOwners.{is_of_release, is_release_failed, is_that, next_owner, release_kept, set_at};
 
 use pim_facts::lists::{get, set};
 use pim_facts::{Ids, Named};

@@ -2,7 +2,8 @@
 ghost use Rattle.std.specs.Prelude.{◌≡◌, ◌≢◌, ◌<◌, ℕ, [], length, Some, None};
 ghost use Rattle.std.specs.Option.{option_map_or};
 ghost use Rattle.pim_course.specs.Depths.{depth_again, depth_granted, depth_released};
-ghost use Rattle.pim_course.specs.Details.{details_granted, details_of, details_released, freed, is_contradicted, is_trylock, released, taken};
+ghost use Rattle.pim_course.specs.Details.{details_granted, details_of, details_released, freed, is_contradicted};
+ghost use Rattle.pim_course.specs.Details.{is_trylock, released, taken};
 ghost use Rattle.pim_course.specs.Going.{GoesOn, HasSameSize, IsStill, KeepsDepths, KeepsDetails, KeepsSections, Numbers, Tells};
 ghost use Rattle.pim_course.specs.Sections.{lasts_at, number_at, sections_of};
 ghost use Rattle.pim_course.specs.Told.{depths_of, did, grant_told, heir_in, release_told, released_told};

@@ -1,7 +1,8 @@
 //! How a thread begins to wait for a mutex, and how it stops without being granted it.
 ghost use Rattle.std.specs.Prelude.{◌≡◌, ◌≢◌, ◌⊎◌, ◌<◌, ℕ, length, Some, None};
 ghost use Rattle.std.specs.Option.{option_and_then};
-ghost use Rattle.pim_course.specs.Details.{asked, details_of, details_requested, is_above, own_asked, own_forgotten, place_of_owner, wait_begun};
+ghost use Rattle.pim_course.specs.Details.{asked, details_of, details_requested, is_above, own_asked, own_forgotten};
+ghost use Rattle.pim_course.specs.Details.{place_of_owner, wait_begun};
 ghost use Rattle.pim_course.specs.NextOwners.{is_that};
 ghost use Rattle.pim_course.specs.Going.{GoesOn, HasSameSize, IsStill, KeepsDepths, KeepsDetails, KeepsSections, Numbers, Tells};
 ghost use Rattle.pim_course.specs.Told.{did, fail_told, gave_up_told, request_told};

@@ -1,5 +1,6 @@
 -- The cycles of numbers of which each leads to one other at most.
-use Rattle.std.specs.Prelude.{◌≡◌, ◌≢◌, ℕ, ◌+◌, ◌<◌, ◌≤◌, List, length, slice_index, Option, Some, All, AllPairs, Any, Contains}
+use Rattle.std.specs.Prelude.{◌≡◌, ◌≢◌, ℕ, ◌+◌, ◌<◌, ◌≤◌, List, length, slice_index, Option, Some, All}
+use Rattle.std.specs.Prelude.{AllPairs, Any, Contains}
 
 -- A cycle, where `next` says whom a number leads to: no two of its numbers are the same, each leads to the one behind it,
 -- and the last to the first.

@@ -1,5 +1,6 @@
 //! The cycles of numbers of which each leads to one other at most.
-ghost use Rattle.std.specs.Prelude.{◌≡◌, ◌≢◌, ℕ, ◌+◌, ◌<◌, ◌^◌, Bool, true, false, List, length, slice_index, slice_set};
+ghost use Rattle.std.specs.Prelude.{◌≡◌, ◌≢◌, ℕ, ◌+◌, ◌<◌, ◌^◌, Bool, true, false, List, length};
+ghost use Rattle.std.specs.Prelude.{slice_index, slice_set};
 ghost use Rattle.std.specs.Prelude.{Option, Some, IfOk, IfSome, IfNone};
 ghost use Rattle.pim_deadlocks.specs.Cycles.{AreCycles};
 ghost use Rattle.pim_deadlocks.specs.Deadlocks.{threads_of};

@@ -1,7 +1,8 @@
 -- What a mutex of a log is: its protocol, its ceiling, and whether its owner may lock it again.
 --
 -- Each list of records here has the latest one first.
-use Rattle.std.specs.Prelude.{◌≡◌, ℕ, ◌==◌, Bool, false, List, [], ◌∷◌, is_some, slice_get, if◌then◌else◌, IfSome, MatchOption, Option, Some, None, unwrap_or}
+use Rattle.std.specs.Prelude.{◌≡◌, ℕ, ◌==◌, Bool, false, List, [], ◌∷◌, is_some, slice_get, if◌then◌else◌}
+use Rattle.std.specs.Prelude.{IfSome, MatchOption, Option, Some, None, unwrap_or}
 use Rattle.std.specs.Option.{option_and_then, option_map_or, option_or}
 use Rattle.pim_log.specs.Events.{mutex_of}
 use Rattle.pim_log.specs.Headers.{header_of, end_of}

@@ -1,5 +1,6 @@
 -- Names and places: words at the end of a line.
-use Rattle.std.proofs.Common.{◌≡◌, ℕ, suc, ◌<◌, ◌≤◌, List, [], ◌∷◌, Bool, true, false, ◌&&◌, length, get_or, Some, None, nat_le, leb}
+use Rattle.std.proofs.Common.{◌≡◌, ℕ, suc, ◌<◌, ◌≤◌, List, [], ◌∷◌, Bool, true, false, ◌&&◌, length, get_or}
+use Rattle.std.proofs.Common.{Some, None, nat_le, leb}
 use Rattle.std.proofs.Common.{arith, refl, sym, ap, ◌∙◌, eqb}
 use Rattle.std.specs.List.{list_all, join_with_byte}
 use Rattle.std.proofs.lemmas.Bool.{le-leb, leb-true, ne_eqb}

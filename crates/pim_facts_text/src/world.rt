@@ -1,7 +1,8 @@
 //! Who owns and awaits what after the lines so far.
 
 ghost use Rattle.std.specs.Prelude.{◌≡◌, ℕ, IfOk, is_none, true};
-ghost use Rattle.pim_facts_text.specs.Worlds.{no_world, may_happen, what_may_happen, after, after_what, locked_by, unlocked};
+ghost use Rattle.pim_facts_text.specs.Worlds.{no_world, may_happen, what_may_happen, after, after_what};
+ghost use Rattle.pim_facts_text.specs.Worlds.{locked_by, unlocked};
 ghost use Rattle.pim_facts_text.specs.Worlds.{may_be_granted, may_wait, may_give_up, may_release, may_have_ceiling};
 ghost use Rattle.pim_facts_text.specs.Held.{world_of, with_thread, with_mutex};
 ghost use Rattle.pim_facts_text.specs.declared.line.Line.TheVariants as lines;

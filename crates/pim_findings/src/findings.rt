@@ -1,5 +1,6 @@
 //! What is found in a recording.
-ghost use Rattle.std.specs.Prelude.{◌≡◌, ◌≢◌, ℕ, ◌<◌, ◌==◌, ◌&&◌, ◌||◌, not, ◌↔◌, ◌⊎◌, Some, None, List, [], ◌∷◌, length};
+ghost use Rattle.std.specs.Prelude.{◌≡◌, ◌≢◌, ℕ, ◌<◌, ◌==◌, ◌&&◌, ◌||◌, not, ◌↔◌, ◌⊎◌, Some, None, List};
+ghost use Rattle.std.specs.Prelude.{[], ◌∷◌, length};
 ghost use Rattle.std.specs.Prelude.{is_some, Any, IfOk, IsTrue, if◌then◌else◌, vec_len};
 ghost use Rattle.pim_deadlocks.specs.Cycles.{AreCycles};
 ghost use Rattle.pim_deadlocks.specs.Deadlocks.{blocker_of, threads_of};

@@ -1,5 +1,6 @@
 //! The waits of a program: how many, and the longest.
-ghost use Rattle.std.specs.Prelude.{◌≡◌, ℕ, ◌<◌, nat_lt, ◌==◌, ◌↔◌, List, [], ◌∷◌, ◌++◌, length, take, insert, is_some, Any};
+ghost use Rattle.std.specs.Prelude.{◌≡◌, ℕ, ◌<◌, nat_lt, ◌==◌, ◌↔◌, List, [], ◌∷◌, ◌++◌, length, take};
+ghost use Rattle.std.specs.Prelude.{insert, is_some, Any};
 ghost use Rattle.std.specs.Prelude.{IsTrue, IfOk, if◌then◌else◌};
 ghost use Rattle.std.specs.List.{position_or_len};
 ghost use Rattle.std.specs.Option.{option_map};

@@ -9,7 +9,8 @@ ghost use Rattle.pim_course.specs.World.{but_for, world_of};
 ghost use Rattle.pim_findings.specs.declared.queues.Queued as queues;
 ghost use Rattle.pim_findings.specs.Levels.{Gets, IsFirstNumber, heir_by};
 ghost use Rattle.pim_findings.specs.Longest.{capped};
-ghost use Rattle.pim_findings.specs.Queue.{AreEffective, AreSound, HasHighest, HaveOwn, IsRaised, KeepsQueue, before_at};
+ghost use Rattle.pim_findings.specs.Queue.{AreEffective, AreSound, HasHighest, HaveOwn, IsRaised};
+ghost use Rattle.pim_findings.specs.Queue.{KeepsQueue, before_at};
 ghost use Rattle.pim_findings.specs.Queue.{counts_at, is_before_at, level_at, protects_at, queue_of, queued_at};
 
 use crate::found_wait::FoundWait;

@@ -8,7 +8,8 @@ use Rattle.pim_replay.specs.Priorities.{IsOnScale, KeepsOrder, level_count}
 use Rattle.pim_numbers.specs.Numbered.{AreAtMost, AreMany, AreNumbersOf, HasRoomFor, HaveOwn, NeedNumbers, ShareFamily}
 use Rattle.pim_builder.specs.declared.builder.Context.{Context}
 use Rattle.pim_numbers.specs.declared.fault.ImportFault.{ImportFault}
-use Rattle.pim_numbers.specs.declared.fault.ImportFault.TheVariants.{Contradiction, TooManyThreads, Crowded, TooManyPriorities, Memory}
+use Rattle.pim_numbers.specs.declared.fault.ImportFault.TheVariants.{Contradiction, TooManyThreads, Crowded}
+use Rattle.pim_numbers.specs.declared.fault.ImportFault.TheVariants.{TooManyPriorities, Memory}
 use Rattle.pim_numbers.specs.declared.participants.Participants.{Participants}
 use Rattle.pim_import.specs.Contradicting.{ContradictsAt}
 use Rattle.pim_import.specs.Following.{AreOfLog, FollowsLog, KeepsThoseOfLog, facts_of}

@@ -1,7 +1,8 @@
 -- What became of the records of a log that were looked at.
 use Rattle.std.specs.Prelude.{ℕ, ◌+◌, Bool, if◌then◌else◌}
 use Rattle.pim_facts.specs.declared.fact.LeftOut.{LeftOut}
-use Rattle.pim_facts.specs.declared.fact.LeftOut.TheVariants.{Absent, Remark, Unchanged, Again, Uncontended, Refused, NotOwner}
+use Rattle.pim_facts.specs.declared.fact.LeftOut.TheVariants.{Absent, Remark, Unchanged, Again, Uncontended}
+use Rattle.pim_facts.specs.declared.fact.LeftOut.TheVariants.{Refused, NotOwner}
 use Rattle.pim_facts.specs.declared.fact.LeftOut.TheVariants.{Revoked, Absentee}
 use Rattle.pim_import.specs.declared.tally.Tally.{Tally}
 

@@ -1,5 +1,6 @@
 -- The waits are those from one event of a task to the next one that ends its call, or last still.
-use Rattle.std.proofs.Common.{◌≡◌, ◌≢◌, ℕ, ◌-◌, suc, ◌<◌, ◌==◌, Bool, true, false, not, cond, ◌&&◌, List, [], ◌∷◌, Option, Some, None, refl, sym, ap, ◌∙◌, subst, inl, inr, arith}
+use Rattle.std.proofs.Common.{◌≡◌, ◌≢◌, ℕ, ◌-◌, suc, ◌<◌, ◌==◌, Bool, true, false, not, cond, ◌&&◌, List, []}
+use Rattle.std.proofs.Common.{◌∷◌, Option, Some, None, refl, sym, ap, ◌∙◌, subst, inl, inr, arith}
 use Rattle.std.specs.Prelude.{Any, Contains, IfSome}
 use Rattle.std.specs.Option.{option_map}
 use Rattle.std.proofs.lemmas.Bool.{eq-eqb, eqb-false, eqb-true, ne_eqb}
@@ -13,8 +14,11 @@ use Rattle.pim_kernel_waits.specs.declared.futex_wait.FutexCall.{FutexCall}
 use Rattle.pim_kernel_waits.specs.declared.futex_wait.Waker.{Waker}
 use Rattle.pim_kernel_waits.specs.declared.futex_wait.End.{End}
 use Rattle.pim_kernel_waits.specs.declared.futex_wait.FutexWait.{FutexWait}
-use Rattle.pim_kernel_waits.specs.FutexWaits.{begun, call_by, call_of, end_by, ended_now, ended_waits, first_level, found, if_ended, last_waker, lasting_at, lasting_waits, level_at, stopped, with_level, with_waker}
-use Rattle.pim_kernel_waits.specs.Laws.{HasWaited, IsInCall, IsStill, IsWaiting, IsWakeBy, StaysStill, earlier_of, first_sleep, sleep_at, sleep_by}
+use Rattle.pim_kernel_waits.specs.FutexWaits.{begun, call_by, call_of, end_by, ended_now, ended_waits}
+use Rattle.pim_kernel_waits.specs.FutexWaits.{first_level, found, if_ended, last_waker, lasting_at}
+use Rattle.pim_kernel_waits.specs.FutexWaits.{lasting_waits, level_at, stopped, with_level, with_waker}
+use Rattle.pim_kernel_waits.specs.Laws.{HasWaited, IsInCall, IsStill, IsWaiting, IsWakeBy, StaysStill}
+use Rattle.pim_kernel_waits.specs.Laws.{earlier_of, first_sleep, sleep_at, sleep_by}
 
 -- ---- calls
 

@@ -1,5 +1,6 @@
 -- The waits of real-time tasks for futexes, in the kernel's events. A list that is called seen has the latest event first.
-use Rattle.std.specs.Prelude.{◌≡◌, ℕ, ◌-◌, ◌==◌, nat_le, ◌&&◌, Bool, not, List, [], ◌∷◌, ◌++◌, length, filter, reverse, flat_map, if◌then◌else◌, Option, Some, None}
+use Rattle.std.specs.Prelude.{◌≡◌, ℕ, ◌-◌, ◌==◌, nat_le, ◌&&◌, Bool, not, List, [], ◌∷◌, ◌++◌, length, filter}
+use Rattle.std.specs.Prelude.{reverse, flat_map, if◌then◌else◌, Option, Some, None}
 use Rattle.std.specs.Option.{option_map}
 use Rattle.std.specs.List.{list_any}
 use Rattle.pim_kernel_events.specs.declared.event.Event.{Event}
@@ -22,7 +23,8 @@ use Rattle.pim_kernel_waits.specs.declared.futex_wait.Lost.{Lost}
 -- the level of task t that what happened shows, where task was on the CPU: the last switch to it or from it says it, or the
 -- last boost; a loss makes each unknown
 abbrev pub level_by : What → ℕ → ℕ → Option ℕ → Option ℕ
-level_by (whats.Switch s) task t before = if s.next == t then Some s.next_level else if task == t then Some s.level else before
+level_by (whats.Switch s) task t before =
+    if s.next == t then Some s.next_level else if task == t then Some s.level else before
 level_by (whats.Boost b) task t before = if b.task == t then Some b.after else before
 level_by (whats.Lost loss) task t before = None
 level_by _ task t before = before
@@ -166,5 +168,6 @@ certain lost waits = filter (λ wait. not (meets lost wait.began wait.until)) wa
 
 -- the waits of a recording are those that meet no loss, and the others are counted
 pub record AreFutexWaits (recording : Recording) (result : FutexWaits) : Type 0 where
-  pub waits : result.waits.items ≡ certain (losses_in (reverse recording.events.items)) (all_waits recording.events.items recording.ended)
+  pub waits : result.waits.items
+      ≡ certain (losses_in (reverse recording.events.items)) (all_waits recording.events.items recording.ended)
   pub left_out : result.left_out ≡ length (all_waits recording.events.items recording.ended) - length result.waits.items

@@ -1,5 +1,6 @@
 -- What the definitions of waits for futexes come to. A list that is called seen has the latest event first.
-use Rattle.std.specs.Prelude.{◌≡◌, ◌≢◌, ℕ, ◌-◌, ◌<◌, ◌==◌, List, [], ◌∷◌, ◌++◌, if◌then◌else◌, Option, Some, None, false, All, Any, Contains, IfSome}
+use Rattle.std.specs.Prelude.{◌≡◌, ◌≢◌, ℕ, ◌-◌, ◌<◌, ◌==◌, List, [], ◌∷◌, ◌++◌, if◌then◌else◌, Option, Some}
+use Rattle.std.specs.Prelude.{None, false, All, Any, Contains, IfSome}
 use Rattle.pim_kernel_events.specs.declared.event.Event.{Event}
 use Rattle.pim_kernel_events.specs.declared.event.What.{What}
 use Rattle.pim_kernel_events.specs.declared.event.What.TheVariants as whats

@@ -2,7 +2,8 @@
 ghost use Rattle.std.specs.Prelude.{◌≡◌, List, [], ◌∷◌, ◌++◌, reverse, IfOk, OnOk};
 ghost use Rattle.std.specs.List.Sorted.{IsPermutation};
 ghost use Rattle.pim_kernel_events.specs.declared.event.Event.{Event};
-ghost use Rattle.pim_kernel_waits.specs.FutexWaits.{AreFutexWaits, all_waits, certain, ended_now, found, lasting_at, loss_of, meets};
+ghost use Rattle.pim_kernel_waits.specs.FutexWaits.{AreFutexWaits, all_waits, certain, ended_now, found};
+ghost use Rattle.pim_kernel_waits.specs.FutexWaits.{lasting_at, loss_of, meets};
 ghost use Rattle.pim_kernel_waits.specs.Tables.{Knows, call_in};
 ghost use Rattle.pim_kernel_waits.specs.Orders.{AreLongestFutexWaitsFirst};
 

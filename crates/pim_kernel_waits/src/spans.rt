@@ -3,7 +3,8 @@ ghost use Rattle.std.specs.Prelude.{◌≡◌, List, map, IfOk, filter};
 ghost use Rattle.std.specs.List.{count_by, list_any};
 ghost use Rattle.std.specs.List.Sorted.{IsPermutation};
 ghost use Rattle.pim_kernel_waits.specs.Outside.{outside, overlaps};
-ghost use Rattle.pim_kernel_waits.specs.Times.{AreInOrder, Holds, IsSorted, began_of, is_by, is_earlier, is_span, until_of};
+ghost use Rattle.pim_kernel_waits.specs.Times.{AreInOrder, Holds, IsSorted, began_of, is_by, is_earlier};
+ghost use Rattle.pim_kernel_waits.specs.Times.{is_span, until_of};
 
 use crate::futex_wait::FutexWait;
 use std::alloc::{AllocError, Global};

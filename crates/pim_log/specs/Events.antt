@@ -1,5 +1,6 @@
 -- What the fields of a record say: the table of record/FORMAT.md.
-use Rattle.std.specs.Prelude.{◌≡◌, ℕ, ◌/◌, ◌%◌, ◌^◌, ◌-◌, ◌==◌, bit_and, min, nat_le, ◌++◌, Bool, not, ◌&&◌, ◌||◌, if◌then◌else◌, Option, Some, None}
+use Rattle.std.specs.Prelude.{◌≡◌, ℕ, ◌/◌, ◌%◌, ◌^◌, ◌-◌, ◌==◌, bit_and, min, nat_le, ◌++◌, Bool, not, ◌&&◌}
+use Rattle.std.specs.Prelude.{◌||◌, if◌then◌else◌, Option, Some, None}
 use Rattle.std.specs.Int.{w16, w32, w64, to_le_bytes}
 use Rattle.pim_log.specs.declared.fields.Fields.{Fields}
 use Rattle.pim_log.specs.declared.header.TheConstants.{PLACED_VERSION, VERSION}
@@ -33,7 +34,8 @@ is_event_of version code = is_event code && (nat_le code 25 || version == VERSIO
 -- whether the object of an event is an address and a place: that of a call that locks, unlocks, waits or gives, and that
 -- of a frame. Version 1 has no places, and version 2 none of the later events
 abbrev pub has_place : ℕ → ℕ → Bool
-has_place version code = nat_le 20 code && ((version == PLACED_VERSION && nat_le code 25) || (version == VERSION && nat_le code 29))
+has_place version code =
+    nat_le 20 code && ((version == PLACED_VERSION && nat_le code 25) || (version == VERSION && nat_le code 29))
 
 -- the object of an event without its place: bits 0 to 47 are the address
 abbrev pub object_in : ℕ → ℕ → ℕ → ℕ

@@ -1,11 +1,16 @@
 -- The header of a log.
-use Rattle.std.specs.Prelude.{ℕ, ◌+◌, ◌*◌, ◌-◌, ◌^◌, ◌==◌, min, nat_lt, nat_le, List, length, Bool, not, ◌&&◌, ◌||◌, if◌then◌else◌, Option, Some, None, is_none, is_some, false}
+use Rattle.std.specs.Prelude.{ℕ, ◌+◌, ◌*◌, ◌-◌, ◌^◌, ◌==◌, min, nat_lt, nat_le, List, length, Bool, not, ◌&&◌}
+use Rattle.std.specs.Prelude.{◌||◌, if◌then◌else◌, Option, Some, None, is_none, is_some, false}
 use Rattle.std.specs.Option.{option_map_or, option_or, unwrap_or}
 use Rattle.pim_log.specs.Numbers.{number_at}
 use Rattle.pim_log.specs.declared.header.Header.{Header}
-use Rattle.pim_log.specs.declared.header.TheConstants.{HEADER_BYTES, SLOT_BYTES, CHUNK_SLOTS, RECORDS_OF_CHUNK, MAGIC, BYTE_ORDER, FIRST_VERSION, PLACED_VERSION, VERSION, PLACES, COMMAND_BYTES}
+use Rattle.pim_log.specs.declared.header.TheConstants.{HEADER_BYTES, SLOT_BYTES, CHUNK_SLOTS}
+use Rattle.pim_log.specs.declared.header.TheConstants.{RECORDS_OF_CHUNK, MAGIC, BYTE_ORDER, FIRST_VERSION}
+use Rattle.pim_log.specs.declared.header.TheConstants.{PLACED_VERSION, VERSION, PLACES, COMMAND_BYTES}
 use Rattle.pim_log.specs.declared.fault.HeaderFault.{HeaderFault}
-use Rattle.pim_log.specs.declared.fault.HeaderFault.TheVariants.{NotALog, OtherByteOrder, OtherVersion, OtherSizes, Contradiction, CutShort, TooManyNumbers}
+use Rattle.pim_log.specs.declared.fault.HeaderFault.TheVariants.{NotALog, OtherByteOrder, OtherVersion}
+use Rattle.pim_log.specs.declared.fault.HeaderFault.TheVariants.{OtherSizes, Contradiction, CutShort}
+use Rattle.pim_log.specs.declared.fault.HeaderFault.TheVariants.{TooManyNumbers}
 
 -- the lowest number for which a log had no room; its header has 0 where nothing was lost
 abbrev pub first_lost_in : List ℕ → Option ℕ
@@ -39,7 +44,8 @@ header_bytes_of version = if nat_le PLACED_VERSION version then HEADER_BYTES + 8
 -- the sizes are those of the version: of the header, a record, and a chunk
 abbrev pub has_sizes : List ℕ → Bool
 has_sizes bytes =
-    (number_at 4 16 bytes == header_bytes_of (number_at 4 8 bytes) && number_at 4 20 bytes == SLOT_BYTES) && number_at 4 24 bytes == CHUNK_SLOTS
+    (number_at 4 16 bytes == header_bytes_of (number_at 4 8 bytes) && number_at 4 20 bytes == SLOT_BYTES)
+    && number_at 4 24 bytes == CHUNK_SLOTS
 
 -- what is wrong with the parts that each log has: the first line that applies
 abbrev pub form_fault_of : List ℕ → Option HeaderFault

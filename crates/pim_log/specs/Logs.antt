@@ -2,7 +2,9 @@
 --
 -- Behind the header a log has slots of 32 bytes. Slot s is the head of a chunk if 512 divides s; the others have room for
 -- a record of that chunk's thread.
-use Rattle.std.specs.Prelude.{◌≡◌, ◌≢◌, ℕ, ◌+◌, ◌-◌, ◌*◌, ◌%◌, ◌<◌, ◌==◌, nat_le, nat_lt, List, length, slice_index, slice_index_or, Bool, not, ◌&&◌, ◌||◌, if◌then◌else◌, bit_and, IsTrue, Option, Some, None}
+use Rattle.std.specs.Prelude.{◌≡◌, ◌≢◌, ℕ, ◌+◌, ◌-◌, ◌*◌, ◌%◌, ◌<◌, ◌==◌, nat_le, nat_lt, List, length}
+use Rattle.std.specs.Prelude.{slice_index, slice_index_or, Bool, not, ◌&&◌, ◌||◌, if◌then◌else◌, bit_and}
+use Rattle.std.specs.Prelude.{IsTrue, Option, Some, None}
 use Rattle.pim_log.specs.Numbers.{number_at}
 use Rattle.pim_log.specs.Events.{is_event_of, object_in, place_in, time_of, Says}
 use Rattle.pim_log.specs.Headers.{header_of, header_fault, end_of, chunks_of}
@@ -15,7 +17,8 @@ use Rattle.pim_log.specs.declared.fields.Fields.{Fields}
 use Rattle.pim_log.specs.declared.heads.Head.{Head}
 use Rattle.pim_log.specs.declared.record.Record.{Record}
 use Rattle.pim_log.specs.declared.fault.SlotFault.{SlotFault}
-use Rattle.pim_log.specs.declared.fault.SlotFault.TheVariants.{DamagedHead, OutsideChunk, OutOfOrder, NumberTooHigh, UnknownEvent}
+use Rattle.pim_log.specs.declared.fault.SlotFault.TheVariants.{DamagedHead, OutsideChunk, OutOfOrder}
+use Rattle.pim_log.specs.declared.fault.SlotFault.TheVariants.{NumberTooHigh, UnknownEvent}
 use Rattle.pim_log.specs.declared.fault.LogFault.{LogFault}
 use Rattle.pim_log.specs.declared.fault.LogFault.TheVariants as faults
 
@@ -51,7 +54,8 @@ thread_in bytes s = number_at 4 (slot_at (header_of bytes) (head_of s) + 16) byt
 abbrev pub head_fault : List ℕ → ℕ → Option SlotFault
 head_fault bytes s =
     if mark_in bytes s == 0 then None
-    else if not (mark_in bytes s == CHUNK_MARK) || thread_in bytes s == 0 || not (nat_lt (thread_in bytes s) (header_of bytes).next_thread)
+    else if not (mark_in bytes s == CHUNK_MARK) || thread_in bytes s == 0
+    || not (nat_lt (thread_in bytes s) (header_of bytes).next_thread)
     then Some DamagedHead else None
 
 -- a slot is the first of its chunk that has room for a record, or has a record behind one of a lower number
@@ -141,7 +145,8 @@ head_in bytes s =
 -- a list has the heads of the first chunks
 pub record AreHeads (bytes : List ℕ) (end : ℕ) (heads : List Head) : Type 0 where
   pub room : length heads ≡ end
-  pub each : (chunk : ℕ) (default : Head) → chunk < end → slice_index_or heads chunk default ≡ head_in bytes (CHUNK_SLOTS * chunk)
+  pub each : (chunk : ℕ) (default : Head) → chunk < end →
+      slice_index_or heads chunk default ≡ head_in bytes (CHUNK_SLOTS * chunk)
 
 -- the record in a slot: what its fields say, and the numbers of its chunk's head
 pub record IsRecord (bytes : List ℕ) (s : ℕ) (r : Record) : Type 0 where
@@ -170,12 +175,14 @@ pub record IsOfLock (bytes : List ℕ) (number : ℕ) : Type 0 where
 abbrev pub address_of : List ℕ → ℕ → Option ℕ
 address_of bytes number =
     let address = number_at 8 (HEADER_BYTES + 8 * (number - 1)) bytes in
-    if not (nat_le PLACED_VERSION (header_of bytes).version) || number == 0 || nat_lt PLACES number || address == 0 then None else Some address
+    if not (nat_le PLACED_VERSION (header_of bytes).version) || number == 0 || nat_lt PLACES number || address == 0 then None
+    else Some address
 
 -- the slots of an index are those of the records of the first slots, by their numbers; 0 where there is none
 pub record IsIndex (bytes : List ℕ) (end : ℕ) (index : List ℕ) : Type 0 where
   pub room : length index ≡ end_of (header_of bytes)
-  pub has : (number : ℕ) → slice_index index number ≢ 0 → (slice_index index number < end) × IsNumbered bytes (slice_index index number) number
+  pub has : (number : ℕ) → slice_index index number ≢ 0 →
+      (slice_index index number < end) × IsNumbered bytes (slice_index index number) number
   pub lacks : (s number : ℕ) → s < end → IsNumbered bytes s number → slice_index index number ≢ 0
 
 -- what a reader finds in one list of bytes it finds in another: a log or the same fault, the same header, the same records

@@ -1,6 +1,8 @@
 //! The fields of a record, and what they mean.
 ghost use Rattle.std.specs.Prelude.{◌≡◌, ◌≤◌, MatchOption, true, false};
-ghost use Rattle.pim_log.specs.Events.{has_place, is_event, is_event_of, object_in, place_in, bare_mutex_in, call_of, granted_after, key_of, mutex_in, condition_in, object_of, owner_of, text_of, time_of, took_of, Says};
+ghost use Rattle.pim_log.specs.Events.{has_place, is_event, is_event_of, object_in, place_in};
+ghost use Rattle.pim_log.specs.Events.{bare_mutex_in, call_of, granted_after, key_of, mutex_in};
+ghost use Rattle.pim_log.specs.Events.{condition_in, object_of, owner_of, text_of, time_of, took_of, Says};
 
 use crate::event::{Call, Event, ThreadKey};
 use crate::header::{PLACED_VERSION, VERSION};

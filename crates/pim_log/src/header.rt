@@ -1,6 +1,8 @@
 //! The header of a log.
 ghost use Rattle.std.specs.Prelude.{◌≡◌, ◌≤◌, ℕ, List, length, take, nat_le, None, Some, IfOk, MatchResult};
-ghost use Rattle.pim_log.specs.Headers.{header_of, header_bytes_of, has_sizes, form_fault_of, counter_fault, fault_within, start_fault, first_lost_in, is_contradictory, end_of, chunks_of, used_of};
+ghost use Rattle.pim_log.specs.Headers.{header_of, header_bytes_of, has_sizes, form_fault_of};
+ghost use Rattle.pim_log.specs.Headers.{counter_fault, fault_within, start_fault, first_lost_in};
+ghost use Rattle.pim_log.specs.Headers.{is_contradictory, end_of, chunks_of, used_of};
 ghost use Rattle.pim_log.specs.Logs.{ReadsAs};
 
 use crate::fault::HeaderFault;

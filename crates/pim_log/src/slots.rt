@@ -1,7 +1,8 @@
 //! The slots of a log: a chunk's head, or room for a record.
 ghost use Rattle.std.specs.Prelude.{◌≡◌, ◌≢◌, ◌+◌, ◌-◌, ◌^◌, ◌<◌, ◌≤◌, ◌%◌, length, false, MatchOption};
 ghost use Rattle.pim_log.specs.Headers.{header_of};
-ghost use Rattle.pim_log.specs.Logs.{slot_at, number_in, code_in, head_fault, is_in_order, record_fault, slot_fault, fields_in, head_in, is_lock_in, IsRecord};
+ghost use Rattle.pim_log.specs.Logs.{slot_at, number_in, code_in, head_fault, is_in_order, record_fault};
+ghost use Rattle.pim_log.specs.Logs.{slot_fault, fields_in, head_in, is_lock_in, IsRecord};
 ghost use Rattle.pim_log.specs.Events.{is_event};
 
 use crate::fault::SlotFault;

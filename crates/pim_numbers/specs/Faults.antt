@@ -1,7 +1,8 @@
 -- Which record of a log a fault of its import names.
 use Rattle.std.specs.Prelude.{◌≡◌, ℕ, ◌≤◌, ◌<◌}
 use Rattle.pim_numbers.specs.declared.fault.ImportFault.{ImportFault}
-use Rattle.pim_numbers.specs.declared.fault.ImportFault.TheVariants.{Contradiction, TooManyThreads, Crowded, TooManyPriorities, Memory}
+use Rattle.pim_numbers.specs.declared.fault.ImportFault.TheVariants.{Contradiction, TooManyThreads, Crowded}
+use Rattle.pim_numbers.specs.declared.fault.ImportFault.TheVariants.{TooManyPriorities, Memory}
 
 -- this record contradicts those before it, or memory ran out
 abbrev pub NamesOnly : ℕ → ImportFault → Type 0

@@ -12,7 +12,8 @@ span_at spans i = slice_index_or spans i (record { first = 0; last = 0 })
 pub record AreShared (spans : List Span) (limit : ℕ) (numbers : List ℕ) : Type 0 where
   pub each : length numbers ≡ length spans
   pub below : (i : ℕ) → i < length spans → slice_index numbers i < limit
-  pub apart : (i j : ℕ) → i < j → j < length spans → slice_index numbers i ≡ slice_index numbers j → (span_at spans i).last < (span_at spans j).first
+  pub apart : (i j : ℕ) → i < j → j < length spans → slice_index numbers i ≡ slice_index numbers j →
+      (span_at spans i).last < (span_at spans j).first
 
 -- a number is given only once the lower ones are: each of these is the number of an earlier span
 abbrev pub AreInTurn : List ℕ → Type 0

@@ -7,7 +7,8 @@ ghost use Rattle.pim_numbers.specs.declared.participants.Participant.{Participan
 ghost use Rattle.pim_numbers.specs.declared.span.Span.{Span};
 ghost use Rattle.pim_numbers.specs.Faults.{NamesNone};
 ghost use Rattle.pim_numbers.specs.Numbered.{AddsNumbers, AreApart, AreAtMost, AreFor, AreMany, AreSpansOf, GetNumbers};
-ghost use Rattle.pim_numbers.specs.Numbered.{HasRoomFor, HaveFirsts, HaveNumbers, HaveOwn, IsList, IsListed, KeepsNumbers};
+ghost use Rattle.pim_numbers.specs.Numbered.{HasRoomFor, HaveFirsts, HaveNumbers, HaveOwn, IsList};
+ghost use Rattle.pim_numbers.specs.Numbered.{IsListed, KeepsNumbers};
 ghost use Rattle.pim_numbers.specs.Numbered.{ListsAll, NeedNumbers, OnlyTheyHave, ShareFamily, TakesPart, all_from};
 ghost use Rattle.pim_numbers.specs.Numbered.{number_in};
 

@@ -1,5 +1,7 @@
 -- Who ended a wait is another thread, and each wait is of a real-time thread.
-use Rattle.std.proofs.Common.{◌≡◌, ◌≢◌, ◌⊎◌, ℕ, zero, suc, ◌==◌, ◌<◌, Bool, true, false, not, cond, ◌&&◌, List, [], ◌∷◌, Option, Some, None, All, IfSome, Result, OnOk, Ok, Err, refl, sym, subst, inl, inr, arith, nat_lt}
+use Rattle.std.proofs.Common.{◌≡◌, ◌≢◌, ◌⊎◌, ℕ, zero, suc, ◌==◌, ◌<◌, Bool, true, false, not, cond, ◌&&◌}
+use Rattle.std.proofs.Common.{List, [], ◌∷◌, Option, Some, None, All, IfSome, Result, OnOk, Ok, Err, refl}
+use Rattle.std.proofs.Common.{sym, subst, inl, inr, arith, nat_lt}
 use Rattle.std.specs.Option.{option_map}
 use Rattle.std.proofs.lemmas.Bool.{eqb-false, ltb-true}
 use Rattle.std.proofs.lemmas.List.Elements.{All-cons, All-nil, All-append}
@@ -16,7 +18,10 @@ use Rattle.pim_other_waits.specs.declared.turn.Turn.TheVariants as turns
 use Rattle.pim_other_waits.specs.declared.wait.Awaited.{Awaited}
 use Rattle.pim_other_waits.specs.declared.wait.Gift.{Gift}
 use Rattle.pim_other_waits.specs.declared.wait.OtherWait.{OtherWait}
-use Rattle.pim_other_waits.specs.Waits.{after_own, all_waits, awaited_in, begun_at, came_last, during, ended_at, ended_now, ended_waits, ender_of, gift_of, given_as, gives, if_given, if_lasts, is_condition, last_gift, lasting_now, lasts, level_at, outcome_by, turn_of, wait_of, with_outcome}
+use Rattle.pim_other_waits.specs.Waits.{after_own, all_waits, awaited_in, begun_at, came_last, during}
+use Rattle.pim_other_waits.specs.Waits.{ended_at, ended_now, ended_waits, ender_of, gift_of, given_as, gives}
+use Rattle.pim_other_waits.specs.Waits.{if_given, if_lasts, is_condition, last_gift, lasting_now, lasts}
+use Rattle.pim_other_waits.specs.Waits.{level_at, outcome_by, turn_of, wait_of, with_outcome}
 use Rattle.pim_other_waits.specs.Laws.{IsEndedByAnother, IsRealTime}
 
 -- a wait that lasts hasn't ended, and is of a real-time thread

@@ -14,7 +14,8 @@ use Rattle.pim_other_waits.specs.declared.gifts.Gifts.{Gifts}
 use Rattle.pim_other_waits.specs.declared.gifts.LastGifts.{LastGifts}
 use Rattle.pim_other_waits.specs.declared.waiting.Waiting.{Waiting}
 use Rattle.pim_other_waits.specs.declared.search.Search.{Search}
-use Rattle.pim_other_waits.specs.Waits.{same_awaited, gives, gift_of, given_as, is_condition, is_thread, level_at, last_gift, outcome_by, wait_of, with_outcome, ended_waits}
+use Rattle.pim_other_waits.specs.Waits.{same_awaited, gives, gift_of, given_as, is_condition, is_thread}
+use Rattle.pim_other_waits.specs.Waits.{level_at, last_gift, outcome_by, wait_of, with_outcome, ended_waits}
 use Rattle.pim_log.specs.declared.object.ObjectKind.{ObjectKind}
 use Rattle.pim_other_waits.specs.declared.turn.Turn.{Turn}
 

@@ -1,13 +1,17 @@
 -- What steps that don't name a mutex do, whoever owns it, as long as no task waits for it.
-use Rattle.std.proofs.Common.{◌≡◌, ◌≢◌, ℕ, ◌+◌, ◌-◌, ◌⊎◌, inl, inr, Bool, true, false, ◌&&◌, cond, List, [], ◌∷◌, length, Option, Some, None, refl, sym, ◌∙◌, ap, arith, unwrap_or, option_and_then}
+use Rattle.std.proofs.Common.{◌≡◌, ◌≢◌, ℕ, ◌+◌, ◌-◌, ◌⊎◌, inl, inr, Bool, true, false, ◌&&◌, cond, List, []}
+use Rattle.std.proofs.Common.{◌∷◌, length, Option, Some, None, refl, sym, ◌∙◌, ap, arith, unwrap_or}
+use Rattle.std.proofs.Common.{option_and_then}
 use Rattle.std.specs.Option.{option_map_or}
 use Rattle.pim_base.specs.Lists.{put, contains, holds}
-use Rattle.pim_base.specs.State.{State, protocol_of, owner_of, count_of, wait_of, is_recursive, relocks, first_count, with_owner, with_count, with_wait, queued}
+use Rattle.pim_base.specs.State.{State, protocol_of, owner_of, count_of, wait_of, is_recursive, relocks}
+use Rattle.pim_base.specs.State.{first_count, with_owner, with_count, with_wait, queued}
 use Rattle.pim_base.specs.Chains.{blocker, waits_chain, leads_back}
 use Rattle.pim_base.specs.Checks.{is_busy, checks, first_checks}
 use Rattle.pim_base.specs.Priorities.{ceiling}
 use Rattle.pim_base.specs.Queues.{first_of}
-use Rattle.pim_base.specs.Steps.{unless, handed, is_kept, served, answer, reply_of, hand_over, hand_over_to, mutex_of, after_reply}
+use Rattle.pim_base.specs.Steps.{unless, handed, is_kept, served, answer, reply_of, hand_over, hand_over_to}
+use Rattle.pim_base.specs.Steps.{mutex_of, after_reply}
 use Rattle.pim_base.specs.declared.steps.Op.{Op}
 use Rattle.pim_base.specs.declared.steps.Protocol.{Protocol}
 use Rattle.pim_base.specs.declared.steps.Refusal.{Refusal}

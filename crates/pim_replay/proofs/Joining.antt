@@ -24,7 +24,8 @@ use Rattle.pim_replay.specs.Replays.{program_wait, unlock, with_step}
 use Rattle.pim_replay.specs.Queued.{IsOutside, KeepsEarlier, KeepsQueue, waits_among}
 use Rattle.pim_replay.specs.declared.observation.Observation.{Observation}
 use Rattle.pim_replay.proofs.Ordering.{among_waits}
-use Rattle.pim_replay.proofs.Replaying.{asked_same, continues_refl, continues_trans, freed_owner, handed_owner, idle_asks, known_asks, other_put}
+use Rattle.pim_replay.proofs.Replaying.{asked_same, continues_refl, continues_trans, freed_owner}
+use Rattle.pim_replay.proofs.Replaying.{handed_owner, idle_asks, known_asks, other_put}
 use Rattle.pim_replay.proofs.Replaying.{same_trans, unlocked, wait_put}
 use Rattle.pim_replay.proofs.Staying.{Stays}
 

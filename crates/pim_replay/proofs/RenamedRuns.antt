@@ -1,25 +1,32 @@
 -- What steps do in a state whose priorities are renamed in order.
-use Rattle.std.proofs.Common.{◌≡◌, ℕ, zero, suc, ◌+◌, Bool, true, false, ◌&&◌, nat_lt, cond, List, [], ◌∷◌, length, map, fold, Option, Some, None, refl, sym, ◌∙◌, ap, subst, is_none}
+use Rattle.std.proofs.Common.{◌≡◌, ℕ, zero, suc, ◌+◌, Bool, true, false, ◌&&◌, nat_lt, cond, List, [], ◌∷◌}
+use Rattle.std.proofs.Common.{length, map, fold, Option, Some, None, refl, sym, ◌∙◌, ap, subst, is_none}
 use Rattle.std.specs.Option.{option_map, option_map_or}
 use Rattle.std.specs.List.{AllByRecursion}
 use Rattle.std.proofs.lemmas.List.{map-set}
 use Rattle.std.proofs.lemmas.List.Elements.{recursion_from_All}
 use Rattle.pim_base.specs.Lists.{put, contains, holds}
-use Rattle.pim_base.specs.State.{State, base_of, protocol_of, owner_of, count_of, owned, is_recursive, relocks, with_owner, with_count}
+use Rattle.pim_base.specs.State.{State, base_of, protocol_of, owner_of, count_of, owned, is_recursive}
+use Rattle.pim_base.specs.State.{relocks, with_owner, with_count}
 use Rattle.pim_base.specs.Chains.{chain, blocker, waits_chain, leads_back}
-use Rattle.pim_base.specs.Checks.{unknown_task, unknown_mutex, above_ceiling, not_protect, first_checks, checks, withdraws_itself}
+use Rattle.pim_base.specs.Checks.{unknown_task, unknown_mutex, above_ceiling, not_protect, first_checks}
+use Rattle.pim_base.specs.Checks.{checks, withdraws_itself}
 use Rattle.pim_base.specs.Priorities.{ceiling}
 use Rattle.pim_base.specs.Queues.{first_of}
 use Rattle.pim_base.specs.Runs.{IsRun}
-use Rattle.pim_base.specs.Steps.{unless, handed, served, answer, reply_of, granted, hand_over, hand_over_to, mutex_of, after_reply, after}
+use Rattle.pim_base.specs.Steps.{unless, handed, served, answer, reply_of, granted, hand_over, hand_over_to}
+use Rattle.pim_base.specs.Steps.{mutex_of, after_reply, after}
 use Rattle.pim_base.specs.declared.steps.Entry.{Entry}
 use Rattle.pim_base.specs.declared.steps.Op.{Op}
 use Rattle.pim_base.specs.declared.steps.Protocol.{Protocol}
 use Rattle.pim_base.specs.declared.steps.Reply.{Reply}
 use Rattle.pim_base.specs.declared.steps.Step.{Step}
 use Rattle.pim_base.specs.declared.steps.Waiter.{Waiter}
-use Rattle.pim_replay.specs.Renaming.{RenamesInOrder, renamed_protocol, renamed, renamed_waiter, renamed_op, renamed_step, renamed_entry, IsRenamable, RenamedRunLaw}
-use Rattle.pim_replay.proofs.Renaming.{nat_lt-same, is_recursive-same, ceiling-renamed, base_of-renamed, protocol_of-renamed, tasks-same, mutexes-same, owned-same, first_of-renamed}
+use Rattle.pim_replay.specs.Renaming.{RenamesInOrder, renamed_protocol, renamed, renamed_waiter, renamed_op}
+use Rattle.pim_replay.specs.Renaming.{renamed_step, renamed_entry, IsRenamable, RenamedRunLaw}
+use Rattle.pim_replay.proofs.Renaming.{nat_lt-same, is_recursive-same, ceiling-renamed, base_of-renamed}
+use Rattle.pim_replay.proofs.Renaming.{protocol_of-renamed, tasks-same, mutexes-same, owned-same}
+use Rattle.pim_replay.proofs.Renaming.{first_of-renamed}
 
 map-put : {X Y : Type 0} (g : X → Y) (xs : List X) (n : ℕ) (x : X) → map g (put xs n x) ≡ put (map g xs) n (g x)
 map-put g xs zero x = refl

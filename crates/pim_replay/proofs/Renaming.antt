@@ -1,5 +1,7 @@
 -- What a state shows whose priorities are renamed in order.
-use Rattle.std.proofs.Common.{◌≡◌, ◌≢◌, ℕ, zero, suc, ◌<◌, ◌≤◌, max, ◌⊎◌, inl, inr, Bool, true, false, ◌&&◌, eqb, nat_lt, cond, List, [], ◌∷◌, length, map, filter, filter_map, find, fold, Option, Some, None, refl, sym, ◌∙◌, ap, arith, unwrap_or, option_and_then}
+use Rattle.std.proofs.Common.{◌≡◌, ◌≢◌, ℕ, zero, suc, ◌<◌, ◌≤◌, max, ◌⊎◌, inl, inr, Bool, true, false, ◌&&◌}
+use Rattle.std.proofs.Common.{eqb, nat_lt, cond, List, [], ◌∷◌, length, map, filter, filter_map, find, fold}
+use Rattle.std.proofs.Common.{Option, Some, None, refl, sym, ◌∙◌, ap, arith, unwrap_or, option_and_then}
 use Rattle.std.specs.Option.{option_map, option_map_or}
 use Rattle.std.specs.List.{list_any}
 use Rattle.std.proofs.lemmas.List.{length-map}

@@ -24,7 +24,8 @@ use Rattle.pim_base.proofs.NoCycle.{unwrap_or-put_same}
 use Rattle.pim_base.proofs.Places.{nth-put_same, nth-put_other}
 use Rattle.pim_base.proofs.Prefixes.{prefix_self, prefix_trans}
 use Rattle.pim_replay.specs.Replays.{ReplayState, Program, program_of, program_wait, IsSame, Continues, lock, unlock, cancel}
-use Rattle.pim_replay.specs.Replays.{IsRefused, IsRefusedWait, IsQueued, mutex_of, awaits, begun, without_wait, with_step, given, observed}
+use Rattle.pim_replay.specs.Replays.{IsRefused, IsRefusedWait, IsQueued, mutex_of, awaits, begun}
+use Rattle.pim_replay.specs.Replays.{without_wait, with_step, given, observed}
 use Rattle.pim_replay.specs.Replays.{waiting_for, with_next_wait, with_wait as with_program_wait}
 use Rattle.pim_replay.specs.declared.observation.Observation.TheVariants.{Base, Ceiling}
 

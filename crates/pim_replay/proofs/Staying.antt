@@ -7,10 +7,12 @@ use Rattle.pim_base.specs.declared.steps.Op.{Op}
 use Rattle.pim_base.specs.declared.steps.Reply.{Reply}
 use Rattle.pim_base.specs.declared.steps.Step.{Step}
 use Rattle.pim_base.proofs.NoCycle.{idle_now}
-use Rattle.pim_replay.specs.Replays.{ReplayState, IsQueued, IsQueuedIfItMay, IsRefusedWait, StaysInOrder, cancel, lock, mutex_of}
+use Rattle.pim_replay.specs.Replays.{ReplayState, IsQueued, IsQueuedIfItMay, IsRefusedWait, StaysInOrder}
+use Rattle.pim_replay.specs.Replays.{cancel, lock, mutex_of}
 use Rattle.pim_replay.specs.Replays.{Continues, IsSame, program_of, unlock, with_step, without_wait}
 use Rattle.pim_replay.proofs.Queueing.{in_order_left, in_order_ended}
-use Rattle.pim_replay.proofs.Replaying.{freed_owner, freed_free, granted_owner, handed_owner, idle_asks, known_asks, other_put, wait_put}
+use Rattle.pim_replay.proofs.Replaying.{freed_owner, freed_free, granted_owner, handed_owner, idle_asks}
+use Rattle.pim_replay.proofs.Replaying.{known_asks, other_put, wait_put}
 use Rattle.pim_replay.proofs.Replaying.{same_trans, withdrawn_same, continues_trans, continues_step}
 
 pub stays_trans : (r q s : ReplayState) → StaysInOrder r q → StaysInOrder q s → StaysInOrder r s

@@ -1,5 +1,7 @@
 -- Why the steps of a replay end early.
-use Rattle.std.proofs.Common.{◌≡◌, ◌≢◌, ◌≤◌, ℕ, Bool, true, false, not, ◌&&◌, eqb, inl, inr, List, [], ◌∷◌, length, Option, Some, None, unwrap_or, Result, Ok, Err, IfOk, IfErr, IsSome, refl, sym, ◌∙◌, ap, subst, arith}
+use Rattle.std.proofs.Common.{◌≡◌, ◌≢◌, ◌≤◌, ℕ, Bool, true, false, not, ◌&&◌, eqb, inl, inr, List, [], ◌∷◌}
+use Rattle.std.proofs.Common.{length, Option, Some, None, unwrap_or, Result, Ok, Err, IfOk, IfErr, IsSome}
+use Rattle.std.proofs.Common.{refl, sym, ◌∙◌, ap, subst, arith}
 use Rattle.std.proofs.lemmas.Bool.{eq-eqb}
 use Rattle.std.proofs.lemmas.Bool.Decides.{nat_tests}
 use Rattle.std.proofs.lemmas.Result.{IfErr-weaker}
@@ -12,7 +14,8 @@ use Rattle.pim_base.specs.declared.steps.Reply.{Reply}
 use Rattle.pim_base.specs.declared.steps.Step.{Step}
 use Rattle.pim_base.specs.declared.steps.Wait.{Wait}
 use Rattle.pim_base.proofs.Places.{nth_within}
-use Rattle.pim_replay.specs.Replays.{ReplayState, Program, Continues, IsSame, mutex_of, program_of, program_wait, given, with_step, cancel}
+use Rattle.pim_replay.specs.Replays.{ReplayState, Program, Continues, IsSame, mutex_of, program_of}
+use Rattle.pim_replay.specs.Replays.{program_wait, given, with_step, cancel}
 use Rattle.pim_replay.specs.Replays.{EndsWith, Stops, IsWait, IsNoWait, IsNoReturn, IsNotReleased, MayTake}
 use Rattle.pim_replay.specs.declared.fault.ReplayFault.{ReplayFault}
 use Rattle.pim_replay.specs.declared.fault.ReplayFault.TheVariants.{Contradiction, Memory}

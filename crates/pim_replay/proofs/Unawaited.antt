@@ -1,5 +1,7 @@
 -- What another owner of a mutex for which no task waits leaves as it was.
-use Rattle.std.proofs.Common.{◌≡◌, ◌≢◌, ℕ, ◌≤◌, max, ◌⊎◌, inl, inr, Bool, true, false, ◌&&◌, eqb, List, [], ◌∷◌, length, map, filter, filter_map, find, Option, Some, None, refl, sym, ◌∙◌, ap, arith, unwrap_or, option_and_then, le_antisymm, cond}
+use Rattle.std.proofs.Common.{◌≡◌, ◌≢◌, ℕ, ◌≤◌, max, ◌⊎◌, inl, inr, Bool, true, false, ◌&&◌, eqb, List, []}
+use Rattle.std.proofs.Common.{◌∷◌, length, map, filter, filter_map, find, Option, Some, None, refl, sym, ◌∙◌}
+use Rattle.std.proofs.Common.{ap, arith, unwrap_or, option_and_then, le_antisymm, cond}
 use Rattle.std.specs.List.{list_any}
 use Rattle.std.proofs.lemmas.Bool.{cases_eq, eqb-true}
 use Rattle.std.proofs.lemmas.Bool.Decides.{nat_tests}

@@ -1,5 +1,6 @@
 -- The priorities of a trace that the levels of a log become.
-use Rattle.std.specs.Prelude.{◌≡◌, ℕ, ◌+◌, ◌<◌, Bool, false, List, IsTrue, count_by, slice_index, slice_index_or, take, min, max}
+use Rattle.std.specs.Prelude.{◌≡◌, ℕ, ◌+◌, ◌<◌, Bool, false, List, IsTrue, count_by, slice_index}
+use Rattle.std.specs.Prelude.{slice_index_or, take, min, max}
 use Rattle.pim_replay.specs.declared.priorities.Priorities.{Priorities}
 use Rattle.pim_replay.specs.declared.priorities.Scale.{Scale}
 use Rattle.pim_replay.specs.declared.priorities.Scale.TheVariants.{Same, OneHigher, Ranks}
@@ -18,7 +19,8 @@ priority_of priorities level = slice_index priorities.by_level (min level 100)
 
 -- of two levels that the log has, the higher one has the higher priority
 abbrev pub KeepsOrder : List Bool → Priorities → Type 0
-KeepsOrder levels priorities = (low high : ℕ) → low < high → HasLevel levels low → HasLevel levels high → priority_of priorities low < priority_of priorities high
+KeepsOrder levels priorities = (low high : ℕ) → low < high → HasLevel levels low → HasLevel levels high →
+    priority_of priorities low < priority_of priorities high
 
 -- the priority of a level that the log has on a scale; its rank is how many levels the log has up to this one
 abbrev pub on_scale : Scale → List Bool → ℕ → ℕ
@@ -28,7 +30,8 @@ on_scale Ranks levels level = level_count (take (level + 1) levels)
 
 -- each level that the log has, has its priority on the scale
 abbrev pub IsOnScale : List Bool → Priorities → Type 0
-IsOnScale levels priorities = (level : ℕ) → HasLevel levels level → priority_of priorities level ≡ on_scale priorities.scale levels level
+IsOnScale levels priorities =
+    (level : ℕ) → HasLevel levels level → priority_of priorities level ≡ on_scale priorities.scale levels level
 
 -- no two levels that the log has have one priority on this scale
 abbrev pub Separates : List Bool → Scale → Type 0

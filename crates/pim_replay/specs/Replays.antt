@@ -38,7 +38,8 @@ at_start S = record { start = S; state = S; entries = []; waits = replicate (len
 
 -- the trace that the steps are, with what is declared at the start; its version is the one that has each step
 abbrev pub trace_of_replay : ReplayState → Trace
-trace_of_replay r = recording (record { version = LAST_VERSION; bases = r.start.base; protocols = r.start.protocol; steps = [] }) r.entries
+trace_of_replay r =
+    recording (record { version = LAST_VERSION; bases = r.start.base; protocols = r.start.protocol; steps = [] }) r.entries
 
 -- the step and the model's reply are one entry more
 abbrev pub with_step : ReplayState → Step → ReplayState

@@ -3,7 +3,8 @@ use Rattle.std.proofs.lemmas.Result.{err_from_is_err_and}
 use Rattle.std.specs.Vec.{vec_len}
 use Rattle.pim_facts.specs.declared.family.Family.TheVariants as families
 use Rattle.pim_numbers.specs.Numbered.{GetNumbers, IsList, IsListed, NeedNumbers}
-use Rattle.pim_numbers.proofs.Giving.{all_numbered, family_next, first_next, given_to_all, given_to_next, next_fresh, none_first}
+use Rattle.pim_numbers.proofs.Giving.{all_numbered, family_next, first_next, given_to_all, given_to_next}
+use Rattle.pim_numbers.proofs.Giving.{next_fresh, none_first}
 use Rattle.pim_numbers.proofs.Giving.{none_apart, none_family, none_firsts, none_only}
 use Rattle.pim_numbers.proofs.Listing.{list_few}
 use Rattle.pim_numbers.proofs.Many.{CountsTo, counts_next, counts_none, many_weaker}

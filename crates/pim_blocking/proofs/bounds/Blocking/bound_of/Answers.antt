@@ -1,12 +1,14 @@
 use Rattle.std.proofs.Common.{◌≡◌, ◌∙◌, ◌<◌, [], ap, length, min, subst, sym, arith}
 use Rattle.pim_blocking.specs.declared.bounds.Per.TheVariants as per
 use Rattle.pim_blocking.specs.Ordered.{IsOrderedBy}
-use Rattle.pim_blocking.specs.Bounds.{blocking, first_longest, is_longer, is_used_below, longest_in, longest_of_number, sum_of_longest}
+use Rattle.pim_blocking.specs.Bounds.{blocking, first_longest, is_longer, is_used_below, longest_in}
+use Rattle.pim_blocking.specs.Bounds.{longest_of_number, sum_of_longest}
 use Rattle.pim_blocking.specs.Reached.{inner_in, is_in}
 use Rattle.pim_blocking.proofs.Bounding.{blocking-same, longest-summed, used-same}
 use Rattle.pim_blocking.proofs.Reaching.{reached-same}
 use Rattle.pim_blocking.proofs.Summing.{summed-mutexes, summed-threads}
-use Rattle.pim_blocking.proofs.bounds.Blocking.bound_of.Goals.{then-by_thread-by_mutex+in_ok-sections, else-by_thread-by_mutex+in_ok-sections-2}
+use Rattle.pim_blocking.proofs.bounds.Blocking.bound_of.Goals.{then-by_thread-by_mutex+in_ok-sections}
+use Rattle.pim_blocking.proofs.bounds.Blocking.bound_of.Goals.{else-by_thread-by_mutex+in_ok-sections-2}
 use Rattle.pim_blocking.proofs.bounds.Blocking.bound_of.Goals as goal
 
 pub returns-clause-bound : goal.returns-clause-bound

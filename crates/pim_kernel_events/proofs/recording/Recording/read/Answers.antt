@@ -1,7 +1,8 @@
 use Rattle.std.proofs.Common.{◌∙◌, ◌+◌, ap, sym, arith}
 use Rattle.pim_kernel_events.proofs.Counting.{newline_more, other_same}
 use Rattle.pim_kernel_events.proofs.recording.Recording.read.Goals as goal
-use Rattle.pim_kernel_events.proofs.recording.Recording.read.Goals.{then-bytes-place-eq10+in_ok-fault+in_default, else-bytes-place-eq10}
+use Rattle.pim_kernel_events.proofs.recording.Recording.read.Goals.{then-bytes-place-eq10+in_ok-fault+in_default}
+use Rattle.pim_kernel_events.proofs.recording.Recording.read.Goals.{else-bytes-place-eq10}
 
 -- a newline ends one line more, and the next one begins behind it
 pub loop-place-preserved : goal.loop-place-preserved

@@ -4,7 +4,8 @@ use Rattle.std.proofs.lemmas.List.{get_or_default, length_push}
 use Rattle.std.specs.Vec.{vec_len}
 use Rattle.pim_numbers.specs.Numbered.{listed_at}
 use Rattle.pim_numbers.proofs.Giving.{HasGiven, IsGiving, given_added, given_all, given_apart, given_few}
-use Rattle.pim_numbers.proofs.Giving.{given_kept, given_needed, given_only, given_own, giving_next, giving_none, has_given, next_near}
+use Rattle.pim_numbers.proofs.Giving.{given_kept, given_needed, given_only, given_own, giving_next}
+use Rattle.pim_numbers.proofs.Giving.{giving_none, has_given, next_near}
 use Rattle.pim_numbers.proofs.Leading.{AreFirsts, firsts_grow, firsts_none, firsts_stay, given_firsts, nobody_yet}
 use Rattle.pim_numbers.proofs.Listing.{listed_inside}
 use Rattle.pim_numbers.proofs.numbering.Numbers.give.Goals.{then-number-len+in_ok-push, else-number-len}

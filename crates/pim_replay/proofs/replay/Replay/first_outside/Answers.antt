@@ -4,7 +4,8 @@ use Rattle.pim_replay.specs.Replays.{ReplayState, IsInOrder}
 use Rattle.pim_replay.specs.Queued.{waits_among}
 use Rattle.pim_replay.proofs.Outside.{first_of_all, idle_not_outside, nobody_outside, none_of_all, other_not_outside}
 use Rattle.pim_replay.proofs.Outside.{outside_later, outside_passed, outside_taken}
-use Rattle.pim_replay.proofs.replay.Replay.first_outside.Goals.{in-Some+then-eq+then-from-wait+then-is_before, in-Some+else-eq, in_default}
+use Rattle.pim_replay.proofs.replay.Replay.first_outside.Goals.{in-Some+then-eq+then-from-wait+then-is_before}
+use Rattle.pim_replay.proofs.replay.Replay.first_outside.Goals.{in-Some+else-eq, in_default}
 use Rattle.pim_replay.proofs.replay.Replay.first_outside.Goals.{else-eq-via-then-eq+then-from-wait+else-is_before}
 use Rattle.pim_replay.proofs.replay.Replay.first_outside.Goals.{else-eq-via-then-eq+else-from-wait, else-eq-via-else-eq}
 use Rattle.pim_replay.proofs.replay.Replay.first_outside.Goals as goal
