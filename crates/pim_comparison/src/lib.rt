@@ -18,8 +18,8 @@
 //! `waits.rt` has the waits that the kernel's events show, so that the trace has those that the
 //! log lacks. `timing.rt` has when each step was done: a release at FUTEX_UNLOCK_PI, a grant at
 //! the return of FUTEX_LOCK_PI, where the kernel's events have these calls, else a grant at some
-//! time in its call. `courses.rt` has the priority of each thread after each step, as [`Mark`]s.
-//! [`differences`] compares the marks of a thread with the stretches in which it ran. It is proved
+//! time in its call. `courses.rt` has the priority of each thread after each step, as marks.
+//! `difference.rt` compares the marks of a thread with the stretches in which it ran. It is proved
 //! that the longest difference comes first; that each one is right is tested.
 //!
 //! A wait for a mutex, a semaphore or the like is a wait for a futex, too. [`unlogged`] leaves those
@@ -37,7 +37,6 @@ mod timing;
 mod waits;
 
 pub use comparing::{Compared, Found, Lengthened, compare};
-pub use difference::{Difference, differences};
+pub use difference::Difference;
 pub use logged::unlogged;
-pub use mark::{Mark, widen};
 pub use waits::waits_of;
