@@ -1,19 +1,20 @@
 -- What the records so far name, record by record.
-use Rattle.std.proofs.Common.{◌≡◌, ℕ, ◌+◌, ◌<◌, ◌≤◌, List, [], ◌∷◌, Option, Some, None, sym, subst, ◌∙◌, inl, inr, arith}
+use Rattle.std.proofs.Common.{◌≡◌, ℕ, ◌+◌, ◌<◌, ◌≤◌, ◌==◌, ◌&&◌, Bool, true, false, cond, List, [], ◌∷◌, Option, Some, None}
+use Rattle.std.proofs.Common.{refl, sym, subst, ◌∙◌, inl, inr, arith}
 use Rattle.std.proofs.lemmas.Bool.{cases_lt}
-use Rattle.std.specs.Prelude.{IfSome, unwrap_or}
-use Rattle.std.specs.Option.{option_map_or}
+use Rattle.std.specs.Prelude.{IfSome, find, unwrap_or}
+use Rattle.std.specs.Option.{option_map, option_map_or}
 use Rattle.pim_log.specs.Events.{mutex_of}
 use Rattle.pim_log.specs.Headers.{end_of, header_of}
 use Rattle.pim_log.specs.Logs.{IsLog, IsNumbered}
 use Rattle.pim_log.specs.declared.record.Record.{Record}
 use Rattle.pim_facts.specs.Addresses.{Addresses, KnowsPlaces, addresses_of, after_record, behind}
-use Rattle.pim_facts.specs.Naming.{AreBelow}
+use Rattle.pim_facts.specs.Naming.{AreBelow, is_begin, last_begun}
 use Rattle.pim_facts.specs.declared.places.Places.{Places}
 use Rattle.pim_facts.proofs.Meant.{up-to-end}
 use Rattle.pim_facts.proofs.Naming.{below-lacks}
 use Rattle.pim_requests.specs.Asked.{EndsWhole, IsBegunBy, IsIn, IsLater}
-use Rattle.pim_requests.specs.Searching.{IsPutBy, KnowsNames}
+use Rattle.pim_requests.specs.Searching.{IsPutBy, KnowsNames, begun}
 use Rattle.pim_requests.proofs.Granting.{one-record}
 use Rattle.pim_requests.specs.declared.names.Names.{Names}
 use Rattle.pim_requests.specs.declared.waits.Wait.{Wait}
@@ -42,11 +43,23 @@ put-here : (time : Option ℕ) (a : ℕ) → unwrap_or time 0 ≤ a → IfSome t
 put-here None a le = tt
 put-here (Some put) a le = le
 
+-- the last thread that began with a task, behind a record
+begun-here : (r : Record) (task : ℕ) (before : List Record) (known : Option ℕ) → known ≡ last_begun task before →
+    cond (is_begin r.event && r.task == task) (Some r.thread) known ≡ last_begun task (r ∷ before)
+begun-here r task before known is = here (is_begin r.event && r.task == task)
+  where
+    here : (b : Bool) → cond b (Some r.thread) known ≡
+        option_map (λ q. q.thread) (cond b (Some r) (find (λ q. is_begin q.event && q.task == task) before))
+    here true = refl
+    here false = is
+
 -- no record has the number 0
-pub names-first : (bytes : List ℕ) (names : Names) → KnowsPlaces (addresses_of []) names.places → KnowsNames bytes 1 names
-names-first bytes names knows = record {
+pub names-first : (bytes : List ℕ) (names : Names) → ((task : ℕ) → begun names task ≡ None) →
+    KnowsPlaces (addresses_of []) names.places → KnowsNames bytes 1 names
+names-first bytes names none knows = record {
   before = [];
   are = λ k slot from lt numbered. let above : 0 < k = numbered.above in omega (arith, lt, above);
+  threads = none;
   knows = knows;
   latest = λ r has lt. let above : 0 < r.number = has.numbered.above in absurd (omega (arith, lt, above));
 }
@@ -54,10 +67,11 @@ names-first bytes names knows = record {
 -- behind a record
 pub names-on : (bytes : List ℕ) (r : Record) (old new : Names) → IsLog bytes → IsIn bytes r → old.latest ≤ new.latest →
     unwrap_or r.time 0 ≤ new.latest →
+    ((task : ℕ) → begun new task ≡ cond (is_begin r.event && r.task == task) (Some r.thread) (begun old task)) →
     ((rs : List Record) → KnowsPlaces (addresses_of rs) old.places →
     KnowsPlaces (after_record r (addresses_of rs)) new.places) →
     KnowsNames bytes r.number old → KnowsNames bytes (r.number + 1) new
-names-on bytes r old new log has later own reads names = record {
+names-on bytes r old new log has later own begins reads names = record {
   before = r ∷ names.before;
   are = (
     omega arith,
@@ -65,6 +79,7 @@ names-on bytes r old new log has later own reads names = record {
     has,
     names.are,
   );
+  threads = λ task. begins task ∙ begun-here r task names.before (begun old task) (names.threads task);
   knows = reads names.before names.knows;
   latest = λ q is lt. elim (cases_lt q.number r.number) [
     | inl below ↦ put-later q.time old.latest new.latest later (names.latest q is below)
@@ -86,6 +101,7 @@ pub names-past : (bytes : List ℕ) (n : ℕ) (names : Names) → ((slot : ℕ) 
 names-past bytes n names none knows = record {
   before = knows.before;
   are = below-lacks bytes n knows.before none knows.are;
+  threads = knows.threads;
   knows = knows.knows;
   latest = λ r has lt. elim (cases_lt r.number n) [
     | inl below ↦ knows.latest r has below
@@ -101,6 +117,7 @@ pub names-end : (bytes : List ℕ) (n e : ℕ) (names : Names) → end_of (heade
 names-end bytes n e names low is knows = record {
   before = knows.before;
   are = subst (λ k. AreBelow bytes k knows.before) (sym is) (up-to-end bytes n knows.before low knows.are);
+  threads = knows.threads;
   knows = knows.knows;
   latest = λ r has lt. knows.latest r has (omega (arith, lt, is, low));
 }

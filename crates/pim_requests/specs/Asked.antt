@@ -10,7 +10,7 @@ use Rattle.pim_log.specs.declared.event.Event.TheVariants as event
 use Rattle.pim_log.specs.declared.record.Record.{Record}
 use Rattle.pim_facts.specs.Addresses.{Addresses, addresses_of, meant}
 use Rattle.pim_facts.specs.Levels.{id_of}
-use Rattle.pim_facts.specs.Naming.{AreBelow, IsAt}
+use Rattle.pim_facts.specs.Naming.{AreBelow, IsAt, last_begun}
 use Rattle.pim_facts.specs.declared.ids.Ids.{Ids}
 use Rattle.pim_facts.specs.declared.ids.LoggedMutex.{LoggedMutex}
 use Rattle.pim_facts.specs.declared.ids.LoggedThread.{LoggedThread}
@@ -140,14 +140,16 @@ abbrev pub ArePutBy : List ℕ → ℕ → ℕ → Type 0
 ArePutBy bytes number time =
     (r : Record) → IsIn bytes r → r.number < number → IfSome r.time (λ put. put ≤ time)
 
--- a wait of a thread is for this mutex: the one that the thread's process means by the address, by the records before the
--- first one that was put after the wait began, or by all if none was and the log wasn't full
+-- a wait is of this thread and for this mutex: of the last thread that began with the task, for the mutex that the thread's
+-- process means by the address, by the records before the first one that was put after the wait began, or by all if none was
+-- and the log wasn't full
 pub record IsWaitFor (bytes : List ℕ) (ids : Ids) (wait : Wait) (t m : ℕ) : Type 0 where
   pub number : ℕ
   pub begun : IsBegunBy bytes number wait
   pub first : ArePutBy bytes number wait.from
   pub before : List Record
   pub are : AreBelow bytes number before
+  pub thread : last_begun wait.task before ≡ Some t
   pub is : meant_by (addresses_of before) ids t wait.address ≡ Some m
 
 -- one of the waits is that of a request: it is of its thread and for its mutex, and the request begins with it

@@ -1,9 +1,10 @@
 -- What a search for requests has.
-use Rattle.std.specs.Prelude.{◌≡◌, ◌⊎◌, ◌<◌, ◌≤◌, ℕ, List, length, All, Contains, Option, Some, None, slice_get}
+use Rattle.std.specs.Prelude.{◌≡◌, ◌⊎◌, ◌<◌, ◌≤◌, ◌==◌, ℕ, List, length, All, Contains, Option, Some, None, slice_get}
 use Rattle.std.specs.Prelude.{slice_index_or, IfSome}
+use Rattle.std.specs.HashMap as hash
 use Rattle.pim_log.specs.declared.record.Record.{Record}
 use Rattle.pim_facts.specs.Addresses.{KnowsPlaces, addresses_of}
-use Rattle.pim_facts.specs.Naming.{AreBelow}
+use Rattle.pim_facts.specs.Naming.{AreBelow, last_begun}
 use Rattle.pim_facts.specs.declared.ids.Ids.{Ids}
 use Rattle.pim_course.specs.declared.requests.Request.{Request}
 use Rattle.pim_requests.specs.Asked.{ArePutBy, EndsWhole, HasNext, HasWait, IsIn, IsNextOf}
@@ -23,10 +24,16 @@ AreOfWaits bytes ids waits search =
     All (Contains waits) search.waits.items × (All (IsPendingOf bytes ids waits) search.pending.items
     × All (HasWait bytes ids waits) search.found.list.items)
 
--- what addresses mean is known by the records of a log with numbers below one, and a time up to which these were put
+-- the last thread that began with a task, as far as a log is read
+abbrev pub begun : Names → ℕ → Option ℕ
+begun names task = hash.get (λ a b. a == b) names.threads task
+
+-- which threads began and what addresses mean is known by the records of a log with numbers below one, and a time up to which
+-- these were put
 pub record KnowsNames (bytes : List ℕ) (number : ℕ) (names : Names) : Type 0 where
   pub before : List Record
   pub are : AreBelow bytes number before
+  pub threads : (task : ℕ) → begun names task ≡ last_begun task before
   pub knows : KnowsPlaces (addresses_of before) names.places
   pub latest : ArePutBy bytes number names.latest
 

@@ -1,20 +1,21 @@
 //! Which threads and mutexes the records so far name.
-ghost use Rattle.std.specs.Prelude.{◌≡◌, ◌+◌, ℕ, IfOk, IfSome, IsTrue, List};
+ghost use Rattle.std.specs.Prelude.{◌≡◌, ◌+◌, ◌==◌, ◌&&◌, ℕ, IfOk, IfSome, IsTrue, List, Some, if◌then◌else◌};
 ghost use Rattle.pim_log.specs.Logs.{IsLog};
 ghost use Rattle.pim_facts.specs.Addresses.{Addresses, KnowsPlaces, after_record};
+ghost use Rattle.pim_facts.specs.Naming.{is_begin};
 ghost use Rattle.pim_requests.specs.Asked.{IsBegunBy, IsIn, IsWaitFor, IsWaitOf, process_of};
-ghost use Rattle.pim_requests.specs.Searching.{KnowsNames};
+ghost use Rattle.pim_requests.specs.Searching.{KnowsNames, begun};
 
 use crate::waits::Wait;
 use pim_facts::{Ids, Places};
-use pim_log::Record;
+use pim_log::{Event, Record};
 use std::alloc::{AllocError, Global};
 use std::collections::HashMap;
 
 /// Which threads and mutexes the records so far name.
 #[derive(Drop)]
 pub(crate) struct Names {
-    /// By the kernel's number the last thread whose first record has it.
+    /// By the kernel's number the last thread that began with it.
     threads: HashMap<u32, u32>,
     places: Places,
     /// The latest time of the records so far.
@@ -48,10 +49,10 @@ impl Names {
         if wait.from < self.latest {
             return None;
         }
-        let thread = *self.threads.get(&wait.task)?;
+        let thread = self.thread(wait.task)?;
         let process = process_of(ids, thread)?;
         let mutex = self.places.mutex(process, wait.address)?;
-        // The wait is of the thread, which isn't proved of the map, and the mutex is at the address by these ids.
+        // The ids say the same of both, which isn't proved of the records so far.
         if is_of(wait, ids, thread, mutex) {
             Some((thread, mutex))
         } else {
@@ -59,27 +60,37 @@ impl Names {
         }
     }
 
-    /// Reads the next record. If it is the first one of its thread, this has its task from now on.
+    /// Returns the last thread that began with this task.
+    fn thread(&self, task: u32) -> Option<u32>
+        ensures { result ≡ begun self.now task }
+    {
+        self.threads.get(&task).copied()
+    }
+
+    /// Reads the next record.
     ///
     /// # Errors
     ///
     /// Returns `AllocError` if out of memory.
-    pub fn read(&mut self, record: &Record, is_first: bool) -> Result<(), AllocError>
+    pub fn read(&mut self, record: &Record) -> Result<(), AllocError>
         ensures { (bytes : List ℕ) → IsLog bytes → IsIn bytes record.now → KnowsNames bytes record.now.number self.old →
             IfOk result (λ _. KnowsNames bytes (record.now.number + 1) self.new) }
     {
-        self.begin_thread(record, is_first)?;
+        self.read_thread(record)?;
         self.read_mutex(record)?;
         self.latest = self.latest.max(record.time.unwrap_or(0));
         Ok(())
     }
 
-    /// Keeps the task of a thread, if this is its first record.
-    fn begin_thread(&mut self, record: &Record, is_first: bool) -> Result<(), AllocError>
+    /// Keeps the task of a thread that begins with a record.
+    fn read_thread(&mut self, record: &Record) -> Result<(), AllocError>
+        ensures threads { IfOk result (λ _. (task : ℕ) → begun self.new task ≡
+            (if is_begin «record».now.event && «record».now.task == task then Some «record».now.thread
+            else begun self.old task)) }
         ensures places { self.new.places ≡ self.old.places }
         ensures latest { self.new.latest ≡ self.old.latest }
     {
-        if is_first {
+        if let Event::Thread { .. } = record.event {
             self.threads.insert(record.task, record.thread)?;
         }
         Ok(())
@@ -89,6 +100,7 @@ impl Names {
     fn read_mutex(&mut self, record: &Record) -> Result<(), AllocError>
         ensures places { (known : Addresses) → KnowsPlaces known self.old.places →
             IfOk result (λ _. KnowsPlaces (after_record record.now known) self.new.places) }
+        ensures threads { self.new.threads ≡ self.old.threads }
         ensures latest { self.new.latest ≡ self.old.latest }
     {
         let Some(mutex) = record.event.mutex() else {

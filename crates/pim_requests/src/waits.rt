@@ -196,8 +196,7 @@ impl Search {
             };
             self.begin(names, sources, &mut walk.course, number, record.time)?;
             let _moment = walk.read(log, sources, number);
-            let is_first = get(&self.last, record.thread).is_none();
-            names.read(&record, is_first)?;
+            names.read(&record)?;
             self.pass(sources, walk, &record)?;
         }
         self.begin(names, sources, &mut walk.course, end, last_time(log))

@@ -13,6 +13,7 @@ returns-then-is_of-clause-meant c = λ bytes number begun names.
       first = λ r has lt. put-later r.time c.args.self.now.latest c.args.wait.now.from (omega arith) (names.latest r has lt);
       before = names.before;
       are = names.are;
+      thread = sym (names.threads c.args.wait.now.task) ∙ sym c.in_ok-thread.ensures;
       is =
           ap (option_and_then (λ process. meant known process c.args.wait.now.address)) (sym c.in_ok-process.ensures)
           ∙ sym (c.in_ok-mutex.ensures.meant known names.knows);
