@@ -458,6 +458,7 @@ still-ended bytes ids waits list new ends kept all =
       above = that.above;
       end = that.end;
       ends = that.ends;
+      mutex = that.mutex;
       last = that.last;
     })
     ends all
@@ -484,7 +485,13 @@ ended-has bytes ids waits end grant list ends log has all contains =
       request = that.request;
       has = that.has;
       above = that.above;
-      is = inr (that.is, subst (λ (r : Record). IsNextOf bytes that.request r) same that.ends);
+      is = inr (
+        that.is,
+        (
+          subst (λ (r : Record). IsNextOf bytes that.request r) same that.ends,
+          subst (λ (r : Record). id_of ids r.number ≡ Some that.request.mutex) same that.mutex,
+        ),
+      );
     }
 
 -- behind a record
@@ -593,7 +600,7 @@ below-end bytes ids waits end grant request has is =
           let before : request.after < call.0.end.number = below-call bytes ids request call.0 in
           let same = ap (λ (r : Record). r.number) call.1.0 in
           omega (arith, below, before, same)
-      | inr wait ↦ let before = wait.1.behind in omega (arith, below, before)
+      | inr wait ↦ let before = wait.1.0.behind in omega (arith, below, before)
     ]
 
 in-cond : {X : Type 0} (b : Bool) (y x : X) (xs : List X) → Contains xs x → Contains (cond b (y ∷ xs) xs) x

@@ -10,6 +10,7 @@ use Rattle.std.proofs.lemmas.Option.{get_or_from_slice_get, slice_get-get_or, sl
 use Rattle.pim_log.specs.Headers.{end_of, header_of}
 use Rattle.pim_log.specs.Logs.{IsLog, IsNumbered}
 use Rattle.pim_log.specs.declared.record.Record.{Record}
+use Rattle.pim_facts.specs.Levels.{id_of}
 use Rattle.pim_facts.specs.declared.ids.Ids.{Ids}
 use Rattle.pim_course.specs.declared.requests.Request.{Request}
 use Rattle.pim_requests.specs.Asked.{HasNext, HasPlace, HasWait, IsIn, IsNextOf, IsOfWait}
@@ -268,10 +269,10 @@ last-past bytes n list lacks known = λ x is below lt. elim (cases_lt x.number n
 ]
 
 -- the same ends behind another number
-ends-on : (bytes : List ℕ) (n : ℕ) (list : List Request) (ends : List ℕ) → All (HasEnd bytes n list) ends →
-    All (HasEnd bytes (n + 1) list) ends
-ends-on bytes n list ends all =
-    All-weaker (HasEnd bytes n list) (HasEnd bytes (n + 1) list)
+ends-on : (bytes : List ℕ) (ids : Ids) (n : ℕ) (list : List Request) (ends : List ℕ) → All (HasEnd bytes ids n list) ends →
+    All (HasEnd bytes ids (n + 1) list) ends
+ends-on bytes ids n list ends all =
+    All-weaker (HasEnd bytes ids n list) (HasEnd bytes ids (n + 1) list)
     (λ k that. let below = that.below in record {
       place = that.place;
       request = that.request;
@@ -279,15 +280,16 @@ ends-on bytes n list ends all =
       above = that.above;
       end = that.end;
       ends = that.ends;
+      mutex = that.mutex;
       last = that.last;
       below = omega (arith, below);
     })
     ends all
 
-ends-end : (bytes : List ℕ) (n m : ℕ) (list : List Request) (ends : List ℕ) → end_of (header_of bytes) ≤ m →
-    All (HasEnd bytes n list) ends → All (HasEnd bytes m list) ends
-ends-end bytes n m list ends high all =
-    All-weaker (HasEnd bytes n list) (HasEnd bytes m list)
+ends-end : (bytes : List ℕ) (ids : Ids) (n m : ℕ) (list : List Request) (ends : List ℕ) → end_of (header_of bytes) ≤ m →
+    All (HasEnd bytes ids n list) ends → All (HasEnd bytes ids m list) ends
+ends-end bytes ids n m list ends high all =
+    All-weaker (HasEnd bytes ids n list) (HasEnd bytes ids m list)
     (λ k that.
     let low = that.ends.has.numbered.below in
     let last = that.last in
@@ -298,15 +300,16 @@ ends-end bytes n m list ends high all =
       above = that.above;
       end = that.end;
       ends = that.ends;
+      mutex = that.mutex;
       last = that.last;
       below = omega (arith, low, last, high);
     })
     ends all
 
-ends-more : (bytes : List ℕ) (n : ℕ) (list new : List Request) (q : Request) (ends : List ℕ) → new ≡ list ++ q ∷ [] →
-    All (HasEnd bytes n list) ends → All (HasEnd bytes n new) ends
-ends-more bytes n list new q ends more all =
-    All-weaker (HasEnd bytes n list) (HasEnd bytes n new)
+ends-more : (bytes : List ℕ) (ids : Ids) (n : ℕ) (list new : List Request) (q : Request) (ends : List ℕ) → new ≡ list ++ q ∷ [] →
+    All (HasEnd bytes ids n list) ends → All (HasEnd bytes ids n new) ends
+ends-more bytes ids n list new q ends more all =
+    All-weaker (HasEnd bytes ids n list) (HasEnd bytes ids n new)
     (λ k that. record {
       place = that.place;
       request = that.request;
@@ -315,38 +318,33 @@ ends-more bytes n list new q ends more all =
       above = that.above;
       end = that.end;
       ends = that.ends;
+      mutex = that.mutex;
       last = that.last;
       below = that.below;
     })
     ends all
 
 -- behind a record of a thread that has no open request
-pub ends-none : (bytes : List ℕ) (n : ℕ) (found : Asked) → KnowsEnds bytes n found → KnowsEnds bytes (n + 1) found
-ends-none bytes n found known = ends-on bytes n found.list.items found.ends.items known
+pub ends-none : (bytes : List ℕ) (ids : Ids) (n : ℕ) (found : Asked) → KnowsEnds bytes ids n found → KnowsEnds bytes ids (n + 1) found
+ends-none bytes ids n found known = ends-on bytes ids n found.list.items found.ends.items known
 
--- behind a record of a thread that has an open request, whose wait ends with the record
-pub ends-placed : (bytes : List ℕ) (r : Record) (k : ℕ) (asked : List (Option ℕ)) (old new : Asked) → IsIn bytes r →
-    get_or asked r.thread None ≡ Some k →
-    ((i : ℕ) → i ≢ k → slice_get new.list.items i ≡ slice_get old.list.items i) →
-    ((q : Request) → slice_get old.list.items k ≡ Some q →
-    slice_get new.list.items k ≡ Some (record q { place = r.place })) →
-    new.ends.items ≡ old.ends.items ++ r.number ∷ [] → KnowsOpen bytes r.number asked old.list.items →
-    KnowsEnds bytes r.number old → KnowsEnds bytes (r.number + 1) new
-ends-placed bytes r k asked old new has got others here put opened known =
-    let own : (q : Request) × ((slice_get old.list.items k ≡ Some q) × ((q.thread ≡ r.thread)
-    × IsOpen bytes r.number q)) = opened.those r.thread k got in
+-- behind a record of a thread that has an open request, which gets the record's place
+pub ends-kept : (bytes : List ℕ) (ids : Ids) (r : Record) (k : ℕ) (asked : List (Option ℕ)) (list new : List Request)
+    (ends : List ℕ) → get_or asked r.thread None ≡ Some k →
+    ((i : ℕ) → i ≢ k → slice_get new i ≡ slice_get list i) → KnowsOpen bytes r.number asked list →
+    All (HasEnd bytes ids r.number list) ends → All (HasEnd bytes ids (r.number + 1) new) ends
+ends-kept bytes ids r k asked list new ends got others opened known =
+    let own : (q : Request) × ((slice_get list k ≡ Some q) × ((q.thread ≡ r.thread) × IsOpen bytes r.number q)) =
+    opened.those r.thread k got in
     let q = own.0 in
-    let p = record q { place = r.place } in
     let fresh : IsOpen bytes r.number q = own.1.1.1 in
-    All-same (HasEnd bytes (r.number + 1) new.list.items) _ _ put
-    (All-push (HasEnd bytes (r.number + 1) new.list.items) old.ends.items r.number
-    (All-weaker (HasEnd bytes r.number old.list.items) (HasEnd bytes (r.number + 1) new.list.items)
+    All-weaker (HasEnd bytes ids r.number list) (HasEnd bytes ids (r.number + 1) new)
     (λ n that.
     let below = that.below in
     let last = that.last in
     let apart : that.place ≢ k =
     λ same.
-    let both : Some that.request ≡ Some q = sym that.has ∙ ap (λ i. slice_get old.list.items i) same ∙ own.1.0 in
+    let both : Some that.request ≡ Some q = sym that.has ∙ ap (λ i. slice_get list i) same ∙ own.1.0 in
     let one : that.request ≡ q = cc in
     let thread : that.end.thread ≡ q.thread = that.ends.thread ∙ ap (λ (x : Request). x.thread) one in
     let upto : that.end.number ≤ q.after = fresh.none that.end that.ends.has thread (omega (arith, below, last)) in
@@ -360,10 +358,30 @@ ends-placed bytes r k asked old new has got others here put opened known =
       above = that.above;
       end = that.end;
       ends = that.ends;
+      mutex = that.mutex;
       last = that.last;
       below = omega (arith, below);
     })
-    old.ends.items known)
+    ends known
+
+-- whose wait ends with the record, which is of its mutex
+pub ends-placed : (bytes : List ℕ) (ids : Ids) (r : Record) (k : ℕ) (asked : List (Option ℕ)) (old new : Asked) →
+    IsIn bytes r → get_or asked r.thread None ≡ Some k →
+    ((i : ℕ) → i ≢ k → slice_get new.list.items i ≡ slice_get old.list.items i) →
+    ((q : Request) → slice_get old.list.items k ≡ Some q →
+    slice_get new.list.items k ≡ Some (record q { place = r.place })) →
+    ((q : Request) → slice_get new.list.items k ≡ Some q → id_of ids r.number ≡ Some q.mutex) →
+    new.ends.items ≡ old.ends.items ++ r.number ∷ [] → KnowsOpen bytes r.number asked old.list.items →
+    KnowsEnds bytes ids r.number old → KnowsEnds bytes ids (r.number + 1) new
+ends-placed bytes ids r k asked old new has got others here mutex put opened known =
+    let own : (q : Request) × ((slice_get old.list.items k ≡ Some q) × ((q.thread ≡ r.thread)
+    × IsOpen bytes r.number q)) = opened.those r.thread k got in
+    let q = own.0 in
+    let p = record q { place = r.place } in
+    let fresh : IsOpen bytes r.number q = own.1.1.1 in
+    All-same (HasEnd bytes ids (r.number + 1) new.list.items) _ _ put
+    (All-push (HasEnd bytes ids (r.number + 1) new.list.items) old.ends.items r.number
+    (ends-kept bytes ids r k asked old.list.items new.list.items old.ends.items got others opened known)
     (record {
       place = k;
       request = p;
@@ -371,15 +389,16 @@ ends-placed bytes r k asked old new has got others here put opened known =
       above = fresh.above;
       end = r;
       ends = next-of bytes r.number r q p has refl own.1.1.0 fresh refl;
+      mutex = mutex p (here q own.1.0);
       last = refl;
       below = omega arith;
     }))
 
 -- each end of a wait is that of a request of the list
 pub all-ended : (bytes : List ℕ) (ids : Ids) (waits : List Wait) (n : ℕ) (list : List Request) (ends : List ℕ) →
-    All (IsOfWait bytes ids waits) list → All (HasEnd bytes n list) ends → All (HasEnded bytes ids waits list) ends
+    All (IsOfWait bytes ids waits) list → All (HasEnd bytes ids n list) ends → All (HasEnded bytes ids waits list) ends
 all-ended bytes ids waits n list ends shown all =
-    All-weaker (HasEnd bytes n list) (HasEnded bytes ids waits list)
+    All-weaker (HasEnd bytes ids n list) (HasEnded bytes ids waits list)
     (λ k that.
     let lt = slice_get_within list that.place that.request that.has in
     let at : get_or list that.place that.request ≡ that.request =
@@ -393,6 +412,7 @@ all-ended bytes ids waits n list ends shown all =
       above = that.above;
       end = that.end;
       ends = that.ends;
+      mutex = that.mutex;
       last = that.last;
     })
     ends all
@@ -407,7 +427,7 @@ places-past bytes ids n s lacks knows = record {
   asked =
       others-open bytes n (n + 1) s.asked.items s.found.list.items (λ t k q e thread fresh. open-past bytes n q lacks fresh)
       knows.asked;
-  ends = ends-on bytes n s.found.list.items s.found.ends.items knows.ends;
+  ends = ends-on bytes ids n s.found.list.items s.found.ends.items knows.ends;
 }
 
 -- behind the end of a log
@@ -420,7 +440,7 @@ places-end bytes ids n m s low high knows = record {
   asked =
       others-open bytes n m s.asked.items s.found.list.items (λ t k q e thread fresh. open-end bytes n m q low high fresh)
       knows.asked;
-  ends = ends-end bytes n m s.found.list.items s.found.ends.items high knows.ends;
+  ends = ends-end bytes ids n m s.found.list.items s.found.ends.items high knows.ends;
 }
 
 -- a search that knows the same
@@ -433,7 +453,7 @@ places-kept bytes ids n s t last asked found knows = record {
   asked =
       subst (λ v. KnowsOpen bytes n t.asked.items v.list.items) (sym found)
       (subst (λ v. KnowsOpen bytes n v.items s.found.list.items) (sym asked) knows.asked);
-  ends = subst (λ (v : Asked). KnowsEnds bytes n v) (sym found) knows.ends;
+  ends = subst (λ (v : Asked). KnowsEnds bytes ids n v) (sym found) knows.ends;
 }
 
 pub none-in : (n t k : ℕ) (xs : List (Option ℕ)) → xs ≡ replicate n None → get_or xs t None ≡ Some k → ⊥
@@ -458,7 +478,7 @@ places-first bytes ids s last asked found ends = record {
     those = λ t k e. absurd (none-in (length ids.threads.items) t k s.asked.items asked e);
     others = λ k p e. absurd (let none : None ≡ Some p = ap (λ l. slice_get l k) (sym found) ∙ e in cc);
   };
-  ends = All-same (HasEnd bytes 1 s.found.list.items) _ _ ends (All-nil (HasEnd bytes 1 s.found.list.items));
+  ends = All-same (HasEnd bytes ids 1 s.found.list.items) _ _ ends (All-nil (HasEnd bytes ids 1 s.found.list.items));
 }
 
 upto : (bytes : List ℕ) (n : ℕ) (last : List (Option ℕ)) (q : Request) (x : Record) → q.thread < length last →
@@ -552,8 +572,8 @@ places-more bytes ids n next s t q last put more ends above free behind before l
           known-more bytes n s.asked.items t.asked.items s.found.list.items t.found.list.items q free in_asked
           (is-open bytes n next s.last.items q place above in_last behind before from knows.last) put more knows.asked;
       ends =
-          All-same (HasEnd bytes n t.found.list.items) _ _ (ap (λ v. v.items) ends)
-          (ends-more bytes n s.found.list.items t.found.list.items q s.found.ends.items more knows.ends);
+          All-same (HasEnd bytes ids n t.found.list.items) _ _ (ap (λ v. v.items) ends)
+          (ends-more bytes ids n s.found.list.items t.found.list.items q s.found.ends.items more knows.ends);
     }
 
 -- the thread of a request of a wait is one of the log
@@ -580,7 +600,7 @@ next-from bytes r t next log has own other = λ x is thread from. elim (cases_eq
 pub places-on : (bytes : List ℕ) (ids : Ids) (r : Record) (s m t : Search) → IsLog bytes → IsIn bytes r → m.last ≡ s.last →
     length m.asked.items ≡ length s.asked.items →
     KnowsOpen bytes (r.number + 1) m.asked.items m.found.list.items →
-    KnowsEnds bytes (r.number + 1) m.found →
+    KnowsEnds bytes ids (r.number + 1) m.found →
     t.last.items ≡ set m.last.items r.thread (Some r.number) → t.asked ≡ m.asked → t.found ≡ m.found →
     KnowsWhere bytes ids r.number s → KnowsWhere bytes ids (r.number + 1) t
 places-on bytes ids r s m t log has last size known ends put asked found knows =
@@ -594,7 +614,7 @@ places-on bytes ids r s m t log has last size known ends put asked found knows =
       asked =
           subst (λ v. KnowsOpen bytes (r.number + 1) t.asked.items v.list.items) (sym found)
           (subst (λ v. KnowsOpen bytes (r.number + 1) v.items m.found.list.items) (sym asked) known);
-      ends = subst (λ (v : Asked). KnowsEnds bytes (r.number + 1) v) (sym found) ends;
+      ends = subst (λ (v : Asked). KnowsEnds bytes ids (r.number + 1) v) (sym found) ends;
     }
 
 -- a pending request that belongs behind the last record of its thread in a log

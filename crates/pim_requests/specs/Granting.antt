@@ -67,7 +67,7 @@ KnowsLatest bytes ids number list =
 abbrev pub MissesNone : List ℕ → Ids → ℕ → Type 0
 MissesNone bytes ids number = (m : ℕ) (end grant : Record) → end.number < number → WaitedSilently bytes ids m end grant → ⊥
 
--- a list has the request of a wait that ends with the record with this number
+-- a list has the request of a wait that ends with the record with this number, of its mutex
 pub record HasEnded (bytes : List ℕ) (ids : Ids) (waits : List Wait) (list : List Request) (number : ℕ) : Type 0 where
   pub request : Request
   pub has : Contains list request
@@ -75,6 +75,7 @@ pub record HasEnded (bytes : List ℕ) (ids : Ids) (waits : List Wait) (list : L
   pub above : 0 < request.after
   pub end : Record
   pub ends : IsNextOf bytes request end
+  pub mutex : id_of ids end.number ≡ Some request.mutex
   pub last : end.number ≡ number
 
 -- a list has the request of each call that ends before a number, waited and put none

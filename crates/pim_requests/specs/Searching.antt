@@ -4,6 +4,7 @@ use Rattle.std.specs.Prelude.{slice_index_or, IfSome}
 use Rattle.std.specs.HashMap as hash
 use Rattle.pim_log.specs.declared.record.Record.{Record}
 use Rattle.pim_facts.specs.Addresses.{KnowsPlaces, addresses_of}
+use Rattle.pim_facts.specs.Levels.{id_of}
 use Rattle.pim_facts.specs.Naming.{AreBelow, last_begun}
 use Rattle.pim_facts.specs.declared.ids.Ids.{Ids}
 use Rattle.pim_course.specs.declared.requests.Request.{Request}
@@ -70,20 +71,21 @@ pub record KnowsOpen (bytes : List ℕ) (number : ℕ) (asked : List (Option ℕ
   pub others : (k : ℕ) (request : Request) → slice_get requests k ≡ Some request →
       HasNext bytes request ⊎ (slice_index_or asked request.thread None ≡ Some k)
 
--- a list has the request of a wait that ended with the record with a number, which is below another number
-pub record HasEnd (bytes : List ℕ) (number : ℕ) (list : List Request) (n : ℕ) : Type 0 where
+-- a list has the request of a wait that ended with the record of its mutex with a number, which is below another number
+pub record HasEnd (bytes : List ℕ) (ids : Ids) (number : ℕ) (list : List Request) (n : ℕ) : Type 0 where
   pub place : ℕ
   pub request : Request
   pub has : slice_get list place ≡ Some request
   pub above : 0 < request.after
   pub end : Record
   pub ends : IsNextOf bytes request end
+  pub mutex : id_of ids end.number ≡ Some request.mutex
   pub last : end.number ≡ n
   pub below : n < number
 
 -- so it has those of all ends of waits
-abbrev pub KnowsEnds : List ℕ → ℕ → Asked → Type 0
-KnowsEnds bytes number found = All (HasEnd bytes number found.list.items) found.ends.items
+abbrev pub KnowsEnds : List ℕ → Ids → ℕ → Asked → Type 0
+KnowsEnds bytes ids number found = All (HasEnd bytes ids number found.list.items) found.ends.items
 
 -- a search that went past the records below a number knows which places its requests have, or will have
 pub record KnowsWhere (bytes : List ℕ) (ids : Ids) (number : ℕ) (search : Search) : Type 0 where
@@ -91,4 +93,4 @@ pub record KnowsWhere (bytes : List ℕ) (ids : Ids) (number : ℕ) (search : Se
   pub asked_room : length search.asked.items ≡ length ids.threads.items
   pub last : KnowsLast bytes number search.last.items
   pub asked : KnowsOpen bytes number search.asked.items search.found.list.items
-  pub ends : KnowsEnds bytes number search.found
+  pub ends : KnowsEnds bytes ids number search.found

@@ -13,6 +13,7 @@ ghost use Rattle.std.specs.Prelude.{◌≡◌, ◌≢◌, ◌+◌, ◌<◌, ◌�
 ghost use Rattle.std.specs.Prelude.{List, None, OnOk, Some, length, slice_get, slice_index_or, slice_set};
 ghost use Rattle.pim_log.specs.Headers.{end_of, header_of};
 ghost use Rattle.pim_log.specs.Logs.{IsLog};
+ghost use Rattle.pim_facts.specs.Levels.{id_of};
 ghost use Rattle.pim_requests.specs.Asked.{HasWait, IsBegunBy, IsIn, IsOfWait};
 ghost use Rattle.pim_requests.specs.Granting.{HasEnded};
 ghost use Rattle.pim_requests.specs.Searching.{AreOfWaits, IsNextFrom, IsPendingOf, IsPutBy, KnowsEnds, KnowsNames};
@@ -40,7 +41,7 @@ pub struct Wait {
 #[derive(Drop)]
 pub struct Asked {
     pub list: Vec<Request>,
-    /// The numbers of the records at which these waits end, in ascending order.
+    /// The numbers of the records of their mutexes at which these waits end, in ascending order.
     pub ends: Vec<u64>,
 }
 
@@ -149,6 +150,17 @@ impl Asked {
             return;
         }
         self.list[index].place = place;
+    }
+
+    /// Returns whether the request at an index is for this mutex.
+    fn is_for(&self, index: usize, mutex: Option<u32>) -> bool
+        ensures { IsTrue result →
+            (request : Request) → slice_get self.now.list.items index ≡ Some request → mutex ≡ Some request.mutex }
+    {
+        match self.list.get(index) {
+            Some(request) => mutex == Some(request.mutex),
+            None => false,
+        }
     }
 }
 
@@ -344,7 +356,7 @@ impl Search {
     {
         let id = sources.ids.of_record(record.number);
         self.settle(sources, &mut walk.course, record, id)?;
-        self.end_wait(record)?;
+        self.end_wait(record, id)?;
         self.keep_last(record, id);
         Ok(())
     }
@@ -363,8 +375,9 @@ impl Search {
         }
     }
 
-    /// A record ends the wait of its thread, if one was found since the thread's last record: both are of one call.
-    fn end_wait(&mut self, record: &Record) -> Result<(), AllocError>
+    /// A record ends the wait of its thread, if one was found since the thread's last record. If it is of this mutex, and the
+    /// wait is too, both are of one call.
+    fn end_wait(&mut self, record: &Record, mutex: Option<u32>) -> Result<(), AllocError>
         ensures waits { (bytes : List ℕ) (ids : Ids) (waits : List Wait) → AreOfWaits bytes ids waits self.old →
             OnOk result (AreOfWaits bytes ids waits self.new) }
         ensures last { self.new.last ≡ self.old.last }
@@ -372,17 +385,19 @@ impl Search {
         ensures places { (bytes : List ℕ) → IsLog bytes → IsIn bytes record.now →
             KnowsOpen bytes record.now.number self.old.asked.items self.old.found.list.items →
             OnOk result (KnowsOpen bytes (record.now.number + 1) self.new.asked.items self.new.found.list.items) }
-        ensures ends { (bytes : List ℕ) →
+        ensures ends { (bytes : List ℕ) (ids : Ids) → mutex ≡ id_of ids record.now.number →
             KnowsOpen bytes record.now.number self.old.asked.items self.old.found.list.items → IsIn bytes record.now →
-            KnowsEnds bytes record.now.number self.old.found →
-            OnOk result (KnowsEnds bytes (record.now.number + 1) self.new.found) }
+            KnowsEnds bytes ids record.now.number self.old.found →
+            OnOk result (KnowsEnds bytes ids (record.now.number + 1) self.new.found) }
     {
         let Some(place) = get(&self.asked, record.thread) else {
             return Ok(());
         };
         set(&mut self.asked, record.thread, None);
         self.found.set_place(place, record.place);
-        self.found.ends.push(record.number)?;
+        if self.found.is_for(place, mutex) {
+            self.found.ends.push(record.number)?;
+        }
         Ok(())
     }
 

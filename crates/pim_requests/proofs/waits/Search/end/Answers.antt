@@ -17,7 +17,7 @@ loop-one-init c =
       ends = λ bytes ids waits number end are knows.
           all-ended bytes ids waits number _ _
           (all-placed bytes ids waits number c.args.self _ (ap (λ f. f.list.items) was) end are.1.1 knows)
-          (subst (λ f. KnowsEnds bytes number f) (sym was) knows.ends);
+          (subst (λ f. KnowsEnds bytes ids number f) (sym was) knows.ends);
     }
 
 pub loop-one-preserved : goal.loop-one-preserved

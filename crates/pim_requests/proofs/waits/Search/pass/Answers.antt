@@ -20,5 +20,5 @@ returns-clause-places c = λ bytes waits log has are knows.
     (places-kept bytes ids r.number c.args.self.now _ refl refl refl knows) in
     places-on bytes ids r c.settle.new.self c.end_wait.new.self c.keep_last.new.self log has c.end_wait.ensures.last
     c.end_wait.ensures.size (c.in_ok-end_wait.ensures.places bytes log has settled.asked)
-    (c.in_ok-end_wait.ensures.ends bytes settled.asked has settled.ends) c.keep_last.ensures.last
+    (c.in_ok-end_wait.ensures.ends bytes ids c.of_record-id.ensures settled.asked has settled.ends) c.keep_last.ensures.last
     c.keep_last.ensures.asked c.keep_last.ensures.found settled
