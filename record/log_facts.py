@@ -287,11 +287,11 @@ class World:
         return facts + self.begin_to_wait(thread, mutex, self.owner_at(record))
 
     def request_own(self, record):
-        """A thread asks for a mutex that it owns. It waits for itself unless that is recursive."""
+        """A thread asks for a mutex that it owns. It waits for itself, unless that is recursive: then it doesn't any more."""
         thread, mutex, _ = self.of(record)
         self.left_out("again")
         if self.mutexes.is_recursive(mutex):
-            return []
+            return self.end_own(thread)
         self.own.add(thread)
         return [Fact(None, thread, WAITS, mutex, owner=thread)]
 
