@@ -63,7 +63,7 @@ FINDINGS = {
         ["not bounded", "deadlock"]),
     "recursive": (0, [
         rf"recursive\[\d+\], at SCHED_OTHER, waited {DURATION} from {MOMENT} on for mutex 1 \(inherit\) of "
-        r"recursive\[\d+\], at SCHED_OTHER: no inversion",
+        r"recursive\[\d+\], at SCHED_OTHER: no inversion as it began",
         r"left out: 4 records of locks and unlocks of a mutex that their thread keeps"],
         ["not bounded", "deadlock"]),
     "condition": (0, [
@@ -74,7 +74,7 @@ FINDINGS = {
     "forks": (0, ["no thread waited for a mutex"], ["deadlock"]),
     "aborts": (0, [
         rf"aborts\[\d+\], at SCHED_OTHER, waits {DURATION} from {MOMENT} to the end for mutex 1 \(none\) of "
-        r"aborts\[\d+\], at SCHED_OTHER: no inversion"],
+        r"aborts\[\d+\], at SCHED_OTHER: no inversion as it began"],
         ["not bounded", "deadlock"]),
     "deadlock": (1, [
         r"deadlock: one\[\d+\] waits for mutex 2 \(none\) of two\[\d+\], two\[\d+\] waits for mutex 1 \(none\) of one\[\d+\]"],
@@ -609,7 +609,7 @@ def code_places(folder):
     line_of = {line.rpartition("// ")[2]: number for number, line in enumerate(record_places.PLAN.splitlines(), 1)}
     log, _status = record(folder, record_places.compiled(folder, "plan.c", record_places.PLAN))
     who, names = r"plan\[\d+\], at SCHED_OTHER", pathlib.Path(f"{log}.places")
-    wait = rf"{who}, waited {DURATION} from {MOMENT} on at %s for mutex 1 \(none\) of {who}, which took it at %s: no inversion"
+    wait = rf"{who}, waited {DURATION} from {MOMENT} on at %s for mutex 1 \(none\) of {who}, which took it at %s: no inversion as it began"
     places = (rf"plan\.c:{line_of['PLAN']} \(plan\)", rf"plan\.c:{line_of['TAKE']} \(update_map\)")
     if names.exists():
         check("the lines of a wait and of its owner", missing(Import(log).text.splitlines(), [wait % places], []))

@@ -75,7 +75,7 @@ OWNERS = {
         (begin(HIGH, FIFO_80) + once(HIGH, INHERIT) + asks(0, INHERIT) + once(HIGH, INHERIT),
          [(10, "an unknown thread", "bounded by inheritance")]),
     "no thread but the one that waits, at SCHED_OTHER":
-        (begin(HIGH, OTHER) + once(HIGH) + asks(0) + once(HIGH), [(10, "an unknown thread", "no inversion")]),
+        (begin(HIGH, OTHER) + once(HIGH) + asks(0) + once(HIGH), [(10, "an unknown thread", "no inversion as it began")]),
 }
 # Calls of high that took longer than a record can say: the records, their times in seconds, and the waits of high. The
 # last record but one is the GRANTED of that call, so that it began before 10 - 4.294967295 s.

@@ -149,7 +149,7 @@ fn put_bound(out: &mut Out, told: &Told, wait: &FoundWait) {
         return;
     }
     if wait.owner_level() >= wait.level {
-        out.put(": no inversion\n");
+        out.put(": no inversion as it began\n");
         return;
     }
     out.put(match family_of(told, wait.mutex) {
