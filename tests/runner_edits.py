@@ -55,16 +55,20 @@ REFUSED = "refused, as it must be: "
 # Proves a crate but for BROKEN, and refuses each edit where the prover would find it, but 'bad'; 'vague' by no clause.
 STUB_RT = f"""#!/bin/sh
 echo "$*" >> "$CALLS"
-[ "$1" = ci ] || exit 2
-[ "$2" != "$BROKEN" ] || {{ echo logic=not-proved; exit 1; }}
+[ "$*" = ci ] || exit 2
+for crate in $(sed 's/:/ /' crates.txt) $(ls crates); do
+    [ -d "crates/$crate/src" ] && grep -q "^$crate:" crates.txt && [ "$crate" != "$BROKEN" ] && [ -f HANDLES ] ||
+        {{ echo logic=not-proved; exit 1; }}
+done
 status=0
-for edit in crates/$2/must-fail/*; do
+for edit in crates/*/must-fail/*; do
+    crate=${{edit#crates/}}
     said='{REFUSED}./{GOAL.format(6)}its ensures holds (`returns`)'
     case $edit in
         */bad.edit) said='NOT REFUSED: still proved' status=1 ;;
         */vague.edit) said='{REFUSED}' ;;
     esac
-    echo "rt: must-fail $2/$(basename "$edit"): $said"
+    echo "rt: must-fail ${{crate%%/*}}/$(basename "$edit"): $said"
 done
 exit "${{STATUS:-$status}}"
 """
@@ -75,15 +79,15 @@ class Outline:
 
     def __init__(self, folder):
         self.root, self.calls = pathlib.Path(folder, "repository"), pathlib.Path(folder, "calls")
-        for name in ("edits", "mutate", "checks.py"):
-            self.write(f"tests/{name}", "")
-            shutil.copy(ROOT / "tests" / name, self.root / "tests" / name)
+        for name in ("HANDLES", "launcher/crates", "tests/edits", "tests/mutate", "tests/checks.py"):
+            self.write(name, "")
+            shutil.copy(ROOT / name, self.root / name)
         for crate in ("pim_queue", "pim_two", "pim_three"):
             self.write(f"crates/{crate}/src/queue.rt", SOURCE)
             self.write(f"crates/{crate}/specs/Lib.antt", "")
             self.write(f"crates/{crate}/out/kept", "")
             self.write(f"tests/mutations/{crate}/one.edit", "file: src/queue.rt\n")
-        self.write("crates.txt", "pim_queue:\npim_two:\npim_three:\n")
+        self.write("crates.txt", "pim_queue:\npim_two: pim_queue\npim_three:\n")
         stub = pathlib.Path(folder, "bin/rt")
         stub.parent.mkdir()
         stub.write_text(STUB_RT)
