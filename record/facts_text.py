@@ -133,9 +133,17 @@ class Writer:
         return [*lines, self.placed(fact, *words)]
 
     def gave_up(self, fact):
+        """A wait ends, unless another one took its place."""
+        if fact.what == log_facts.GAVE_UP and not self.has_wait_of(fact):
+            return []
         mutex, _ = self.awaits.pop(fact.thread)
         line = self.placed if fact.what == log_facts.GAVE_UP else self.line
         return [line(fact, "gave-up", self.mutexes[mutex])]
+
+    def has_wait_of(self, fact):
+        """Returns whether the wait of a thread is for the mutex that a fact gives up, and as much for itself."""
+        mutex, words = self.awaits.get(fact.thread, (None, ()))
+        return mutex == fact.mutex and ("of" in words) == (fact.owner != fact.thread)
 
     def granted(self, fact):
         self.awaits.pop(fact.thread, None)

@@ -192,7 +192,7 @@ class World:
         self.last_owner = {}                         # by mutex
         self.ceiling = log.mutexes.first_ceilings()  # by mutex
         self.awaits = {}                             # by thread a mutex of another
-        self.own = set()                             # threads that wait for themselves
+        self.own = {}                                # by thread a mutex of its own
         self.was_above = {}                          # by thread `is_above` as it began to wait
         self.level = dict(log.first_level)           # by thread
         self.selves, self.tasks = {}, {}             # threads by process and pthread_t, by task
@@ -287,20 +287,19 @@ class World:
         return facts + self.begin_to_wait(thread, mutex, self.owner_at(record))
 
     def request_own(self, record):
-        """A thread asks for a mutex that it owns. It waits for itself, unless that is recursive: then it doesn't any more."""
+        """A thread asks for a mutex that it owns. It waits for itself from then on, or no more if that is recursive."""
         thread, mutex, _ = self.of(record)
         self.left_out("again")
         if self.mutexes.is_recursive(mutex):
             return self.end_own(thread)
-        self.own.add(thread)
+        self.own[thread] = mutex
         return [Fact(None, thread, WAITS, mutex, owner=thread)]
 
     def end_own(self, thread):
         """A call of a thread has ended, so that it doesn't wait for itself."""
         if thread not in self.own:
             return []
-        self.own.remove(thread)
-        return [Fact(None, thread, GAVE_UP, owner=thread)]
+        return [Fact(None, thread, GAVE_UP, self.own.pop(thread), owner=thread)]
 
     def owner_at(self, request):
         """Returns who owned the mutex of a REQUEST as it was made, or None."""
