@@ -140,9 +140,9 @@ abbrev pub ArePutBy : List ℕ → ℕ → ℕ → Type 0
 ArePutBy bytes number time =
     (r : Record) → IsIn bytes r → r.number < number → IfSome r.time (λ put. put ≤ time)
 
--- a wait is of this thread and for this mutex: of the last thread that began with the task, for the mutex that the thread's
--- process means by the address, by the records before the first one that was put after the wait began, or by all if none was
--- and the log wasn't full
+-- a wait means this thread and this mutex: the last thread that began with the task, and the mutex that the thread's process
+-- means by the address, by the records before the first one that was put after the wait began, or by all if none was and the
+-- log wasn't full
 pub record IsWaitFor (bytes : List ℕ) (ids : Ids) (wait : Wait) (t m : ℕ) : Type 0 where
   pub number : ℕ
   pub begun : IsBegunBy bytes number wait

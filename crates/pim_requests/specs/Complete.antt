@@ -41,7 +41,7 @@ pub record WaitedSilently (bytes : List ℕ) (ids : Ids) (m : ℕ) (end grant : 
 abbrev pub IsShownBy : List ℕ → Ids → Record → Record → Request → Type 0
 IsShownBy bytes ids end grant request = (call : IsOfCall bytes ids request) × ((call.end ≡ end) × (call.grant ≡ grant))
 
--- a request is that of a wait which ends with a record: the next one of its thread, of its mutex
+-- a request is that of a wait which ends with a record: the next one of its thread, which is of its mutex
 abbrev pub EndsWith : List ℕ → Ids → List Wait → Record → Request → Type 0
 EndsWith bytes ids waits end request =
     IsOfWait bytes ids waits request × (IsNextOf bytes request end × (id_of ids end.number ≡ Some request.mutex))

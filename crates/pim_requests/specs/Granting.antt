@@ -67,7 +67,7 @@ KnowsLatest bytes ids number list =
 abbrev pub MissesNone : List ℕ → Ids → ℕ → Type 0
 MissesNone bytes ids number = (m : ℕ) (end grant : Record) → end.number < number → WaitedSilently bytes ids m end grant → ⊥
 
--- a list has the request of a wait that ends with the record with this number, of its mutex
+-- a list has the request of a wait that ends with the record with this number, which is of its mutex
 pub record HasEnded (bytes : List ℕ) (ids : Ids) (waits : List Wait) (list : List Request) (number : ℕ) : Type 0 where
   pub request : Request
   pub has : Contains list request

@@ -71,7 +71,7 @@ pub record KnowsOpen (bytes : List ℕ) (number : ℕ) (asked : List (Option ℕ
   pub others : (k : ℕ) (request : Request) → slice_get requests k ≡ Some request →
       HasNext bytes request ⊎ (slice_index_or asked request.thread None ≡ Some k)
 
--- a list has the request of a wait that ended with the record of its mutex with a number, which is below another number
+-- a list has the request of a wait that ended with the record with a number, which is of its mutex and below another number
 pub record HasEnd (bytes : List ℕ) (ids : Ids) (number : ℕ) (list : List Request) (n : ℕ) : Type 0 where
   pub place : ℕ
   pub request : Request

@@ -52,7 +52,7 @@ impl Names {
         let thread = self.thread(wait.task)?;
         let process = process_of(ids, thread)?;
         let mutex = self.places.mutex(process, wait.address)?;
-        // The ids say the same of both, which isn't proved of the records so far.
+        // By the ids the thread has the task, and the mutex is at the address. That they say so isn't proved.
         if is_of(wait, ids, thread, mutex) {
             Some((thread, mutex))
         } else {

@@ -74,7 +74,7 @@ fn sort(list: &mut Vec<Request>) -> Result<(), AllocError>
     Ok(())
 }
 
-/// Adds the requests of calls that lasted while another was granted the mutex, but those that end where a wait does.
+/// Adds the requests of calls that lasted while another was granted the mutex, but those that end where a wait for it does.
 fn add_silent(alloc: Global, log: &Log, sources: &Sources, to: &mut Asked) -> Result<(), AllocError>
     ensures shown { (waits : List Wait) → IsLog log.now → All (IsShown log.now sources.now.ids waits) to.old.list.items →
         OnOk result (All (IsShown log.now sources.now.ids waits) to.new.list.items) }
@@ -159,8 +159,8 @@ fn pass(
     grants.pass(record, mutex, before, owner)
 }
 
-/// Adds the request of the call that ends with this record, if it put none, a grant shows that it waited, and no wait ends
-/// there. The number is that of its thread's last record before.
+/// Adds the request of the call that ends with this record, if it put none, a grant shows that it waited, and no wait for
+/// its mutex ends there. The number is that of its thread's last record before.
 fn add_call(
     log: &Log,
     ids: &Ids,
@@ -204,7 +204,7 @@ fn add_call(
     Ok(())
 }
 
-/// Returns whether one of the waits ends with the record with this number.
+/// Returns whether a wait for its mutex ends with the record with this number.
 fn has_ended(asked: &Asked, number: u64) -> bool
     ensures { IsTrue result → Contains asked.now.ends.items number }
 {

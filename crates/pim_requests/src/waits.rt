@@ -375,8 +375,8 @@ impl Search {
         }
     }
 
-    /// A record ends the wait of its thread, if one was found since the thread's last record. If it is of this mutex, and the
-    /// wait is too, both are of one call.
+    /// A record of this mutex ends the wait of its thread, if one was found since the thread's last record. If the wait is for
+    /// the mutex, both are of one call.
     fn end_wait(&mut self, record: &Record, mutex: Option<u32>) -> Result<(), AllocError>
         ensures waits { (bytes : List ℕ) (ids : Ids) (waits : List Wait) → AreOfWaits bytes ids waits self.old →
             OnOk result (AreOfWaits bytes ids waits self.new) }
