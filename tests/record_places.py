@@ -129,7 +129,7 @@ GUARDED = {1: ["granted GUARD", "release GUARDED", "granted LOCK", "release UNLO
                *[f"{event} WAIT_FOR" for event in WAITED],
                *[f"{event} WAIT" for event in WAITED], "release LEAVE_IT"],
            2: ["granted MOVE", "give NOTIFY", "release MOVED"]}
-MISREAD = "clang++", "-O2", "-gdwarf-aranges"  # addr2line of binutils 2.40 names the wrong file of its inlined functions
+MISREAD = "clang++", "-O2", "-gdwarf-aranges"  # addr2line of binutils 2.40 names the wrong file of functions that it inlined
 BUILDS = [("g++", "-O0"), ("g++", "-Og"), ("g++", "-O1"), ("g++", "-O2"), ("clang++", "-O0"), MISREAD,
           ("g++", "-O0", "-static-libstdc++", "-static-libgcc")]
 LIBCXX = "clang++", "-O0", "-stdlib=libc++"  # its timed and shared mutexes are of a mutex and a condition variable
@@ -367,12 +367,12 @@ def guarded(broken, folder):
     """The place of a call by the standard library of C++ is the program's line, at each level of optimization."""
     for compiler, *options in (*BUILDS, LIBCXX):
         name = " ".join((compiler, *options))
-        if (compiler, *options) == MISREAD and not shutil.which("eu-addr2line"):
-            skip(f"the places of locks by {name}", "there is no eu-addr2line")
-            continue
         program = compiled(folder, "guards.cpp", GUARDS.read_text(), "-std=c++17", *options, compiler=compiler)
         if not program:
             skip(f"the places of locks by {name}", "it isn't there, or can't build")
+            continue
+        if (compiler, *options) == MISREAD and not shutil.which("eu-addr2line"):
+            skip(f"the places of locks by {name}", "there is no eu-addr2line")
             continue
         done, path = recorded(folder, program)
         got = told(path, ("guards.cpp", GUARDS.read_text()), but=(reader.REQUEST, reader.WAIT, reader.WAITED))

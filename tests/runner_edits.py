@@ -52,13 +52,13 @@ FORMS = {
                               "Queue::remove, in the answer by hand to its goal returns"),
 }
 REFUSED = "refused, as it must be: "
-# Proves a crate but for BROKEN, and refuses each edit where the prover would find it, but 'bad'; 'vague' by no clause.
+# Proves the crates but for BROKEN, and refuses each edit where the prover would find it, but 'bad'; 'vague' by no clause.
 STUB_RT = f"""#!/bin/sh
 echo "$*" >> "$CALLS"
 [ "$*" = ci ] || exit 2
-for crate in $(sed 's/:/ /' crates.txt) $(ls crates); do
-    [ -d "crates/$crate/src" ] && grep -q "^$crate:" crates.txt && [ "$crate" != "$BROKEN" ] && [ -f HANDLES ] ||
-        {{ echo logic=not-proved; exit 1; }}
+for crate in HANDLES $(sed 's/#.*//; s/ staticlib//; s/:/ /; s/thiserror//' crates.txt) $(ls crates); do
+    [ -f "$crate" ] || {{ [ -d "crates/$crate/src" ] && [ ! -e "crates/$crate/out" ] && grep -q "^$crate\\b" crates.txt &&
+        [ "$crate" != "$BROKEN" ]; }} || {{ echo logic=not-proved; exit 1; }}
 done
 status=0
 for edit in crates/*/must-fail/*; do
@@ -87,7 +87,7 @@ class Outline:
             self.write(f"crates/{crate}/specs/Lib.antt", "")
             self.write(f"crates/{crate}/out/kept", "")
             self.write(f"tests/mutations/{crate}/one.edit", "file: src/queue.rt\n")
-        self.write("crates.txt", "pim_queue:\npim_two: pim_queue\npim_three:\n")
+        self.write("crates.txt", "# NAME: ..\npim_queue: thiserror\npim_two staticlib: pim_queue\npim_three:\n")
         stub = pathlib.Path(folder, "bin/rt")
         stub.parent.mkdir()
         stub.write_text(STUB_RT)
