@@ -1,4 +1,4 @@
-"""The facts of a log as text: `pim-log --facts` prints them. docs/FACTS.md says what the lines are.
+"""The facts of a log as text: `pim-log --facts` prints them. docs/IMPORT-FACTS.md says what the lines are.
 
 A text has one process, and no duration of a call. So the waits of which a log has no request are in
 it as other waits are.

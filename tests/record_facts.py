@@ -1,4 +1,4 @@
-"""The part of tests/record about facts as text: suite/facts, what pim-log writes of logs, and the example.
+"""The part of tests/record about facts as text: suite/import-facts, what pim-log writes of logs, and the example.
 
 `python3 tests/record_facts.py` plays it alone, with the pim-import that is built.
 """
@@ -11,8 +11,8 @@ from record_import import IMPORTER, PIM, unplaced
 from record_logs import read_text
 from record_suite import Case, lines_differ
 
-SUITE, PIM_LOG = ROOT / "suite/facts", ROOT / "record/pim-log"
-# What a text can't have: docs/FACTS.md says it.
+SUITE, PIM_LOG = ROOT / "suite/import-facts", ROOT / "record/pim-log"
+# What a text can't have: docs/IMPORT-FACTS.md says it.
 APART = ("left out: ", "lost: ", "unseen: ", "unplaced: ", "added: ", "not known: ")
 # Recordings whose text has other findings: two damaged ones, those in which a mutex is granted while another owns it,
 # one in which two threads had the same task, two with trylocks, one with callers, and those with waits for what isn't
@@ -62,7 +62,7 @@ BYTES = {"an empty line": (b"\n", BEGIN), "a carriage return": (b"5 1 granted 1\
 
 
 def stored():
-    """Returns a case for each name in suite/facts."""
+    """Returns a case for each name in suite/import-facts."""
     cases = []
     for name in sorted({path.name.split(".")[0] for path in SUITE.glob("*.facts")}):
         parts = files_of(SUITE, name)
