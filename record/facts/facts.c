@@ -1,0 +1,89 @@
+/* pim-facts: writes what happened in a recording as text. `help` says how it is used. */
+#define _GNU_SOURCE
+#include "order.h"
+
+#include <errno.h>
+#include <fcntl.h>
+#include <getopt.h>
+#include <stdio.h>
+#include <stdlib.h>
+#include <string.h>
+#include <sys/mman.h>
+#include <sys/stat.h>
+#include <unistd.h>
+
+static const char help[] =
+    "usage: pim-facts [-o FILE] LOG\n"
+    "\n"
+    "Writes what happened to the threads and mutexes of a recorded program as text, a line for\n"
+    "each fact: who was granted which mutex, who waited for it, and who released it, when, at\n"
+    "which priority, and where in the code. LOG is the file that pim-record -o names. What\n"
+    "LOG.places says, if it is there, names the places. docs/FACTS.md specifies the text.\n"
+    "\n"
+    "  -o, --output FILE   write to FILE, not to standard output\n"
+    "  -h, --help          print this\n"
+    "\n"
+    "    $ pim-record -o run ./controller\n"
+    "    $ pim-facts run > run.facts\n"
+    "\n"
+    "Status: 0; 2 if LOG can't be read, isn't a log or is damaged, or the text can't be written.\n"
+    "Then a line on standard error says why. Nothing is written of a log that is refused.\n";
+
+/* Maps a file that has to be there, or may be missing. Returns an empty one as NULL. */
+static const char *mapped(const char *path, bool may_lack, size_t *length) {
+    struct stat status;
+    *length = 0;
+    int file = open(path, O_RDONLY | O_CLOEXEC);
+    if (file < 0 && may_lack && errno == ENOENT) return NULL;
+    if (file < 0 || fstat(file, &status) != 0) refuse(path, "%s", strerror(errno));
+    if (!S_ISREG(status.st_mode)) refuse(path, "it isn't a file");
+    *length = (size_t)status.st_size;
+    void *bytes = *length ? mmap(NULL, *length, PROT_READ, MAP_PRIVATE, file, 0) : NULL;
+    if (bytes == MAP_FAILED) refuse(path, "%s", strerror(errno));
+    close(file);
+    return bytes;
+}
+
+static const char *beside(const char *path, const char *ending) {
+    char *name = resized(NULL, strlen(path) + strlen(ending) + 1);
+    return strcat(strcpy(name, path), ending);
+}
+
+static void convert(const char *path, const char *output) {
+    static struct log log;
+    static struct names names;
+    static struct text text = { .file = STDOUT_FILENO };
+    static struct told told = { .log = &log };
+    size_t length, places_length;
+    const char *bytes = mapped(path, false, &length);
+    log_read(&log, path, bytes, length);
+    const char *places = mapped(beside(path, ".places"), true, &places_length);
+    names_read(&names, &log, places, places_length);
+    find_requests(&told);
+    find_waits(&told);
+    list_facts(&told);
+    mark_order(&told);
+    text.path = output;
+    if (output) text.file = open(output, O_WRONLY | O_CREAT | O_TRUNC | O_CLOEXEC, 0666);
+    if (text.file < 0) refuse(output, "%s", strerror(errno));
+    write_facts(&told, &names, &text);
+    if (output && close(text.file) != 0) refuse(output, "%s", strerror(errno));
+}
+
+int main(int count, char **arguments) {
+    static const struct option options[] = { { "help", no_argument, NULL, 'h' },
+                                             { "output", required_argument, NULL, 'o' },
+                                             { NULL, 0, NULL, 0 } };
+    const char *output = NULL;
+    for (int option; (option = getopt_long(count, arguments, "ho:", options, NULL)) != -1;) {
+        if (option == 'h') return fputs(help, stdout) < 0 || fflush(stdout) != 0 ? 2 : 0;
+        if (option != 'o') return 2;
+        output = optarg;
+    }
+    if (optind != count - 1) {
+        fputs("usage: pim-facts [-o FILE] LOG\n", stderr);
+        return 2;
+    }
+    convert(arguments[optind], output);
+    return 0;
+}

@@ -1,0 +1,118 @@
+/* A log as FORMAT.md specifies it, in the order of its records. */
+#ifndef PIM_FACTS_LOG_FILE_H
+#define PIM_FACTS_LOG_FILE_H
+
+#include "../library/inner.h"
+#include "../library/log.h"
+#include "../library/places.h"
+#include "common.h"
+
+enum {
+    LEVEL_OTHER = 0, /* of the policies below SCHED_FIFO */
+    LEVEL_MOST = 100,
+    NAME_BYTES = 64,
+};
+
+/* The name of a thread, or the end of the name of a file. */
+struct name {
+    uint8_t length;
+    char bytes[NAME_BYTES];
+};
+
+struct thread {
+    uint32_t log_number;
+    uint32_t process, task; /* by its last record; of no process if it has none */
+    uint32_t name;          /* of the log's names, or NONE */
+    uint32_t text_number;   /* in the facts */
+    uint32_t first, last;   /* records */
+    uint8_t first_level;    /* that of its THREAD, which it has before that, too */
+};
+
+struct mutex {
+    uint64_t address;
+    uint32_t process, init; /* its INIT, or NONE */
+    uint32_t grants;        /* how many GRANTED are of it */
+    uint16_t detail;        /* the first one that is known, or 0 */
+    bool is_shared;
+};
+
+/* A file that is loaded in a process. */
+struct module {
+    uint64_t begin;
+    uint32_t process, name;
+};
+
+/* Records have numbers from 0 on here, in the order of those of the log, without TEXTs. */
+struct log {
+    const char *path;
+    const char *bytes;
+    size_t length;
+    struct header header;
+    uint32_t chunks, count;
+    uint32_t *slots;    /* by record; by chunk of a slot: */
+    uint32_t *owners;   /* the thread */
+    uint32_t *next;     /* by record the next one of its thread, or NONE */
+    uint32_t *mutex_of; /* by record, or NONE */
+    struct thread *threads;
+    struct mutex *mutexes;
+    struct name *names;
+    struct module *modules;
+    uint32_t thread_count, mutex_count, name_count, module_count;
+    struct table by_number; /* the threads */
+    struct table parents;   /* by process the one that forked it */
+    uint64_t ended;         /* the latest time of a record */
+};
+
+/* Reads the bytes of a log. Refuses what is none, or is damaged. */
+void log_read(struct log *log, const char *path, const char *bytes, size_t length);
+
+static inline const char *slot_at(const struct log *log, uint32_t slot) {
+    return log->bytes + log->header.header_bytes + sizeof(struct record) * slot;
+}
+
+static inline const struct record *record_at(const struct log *log, uint32_t record) {
+    return (const struct record *)slot_at(log, log->slots[record]);
+}
+
+static inline uint32_t thread_at(const struct log *log, uint32_t record) {
+    return log->owners[log->slots[record] / CHUNK_RECORDS];
+}
+
+static inline const struct chunk_head *chunk_at(const struct log *log, uint32_t record) {
+    return (const struct chunk_head *)slot_at(log, log->slots[record] & ~(CHUNK_RECORDS - 1u));
+}
+
+/* Returns the address that a record is of, without its place. */
+static inline uint64_t address_of(const struct log *log, const struct record *record) {
+    bool has_place = log->header.version > 1 && record->event >= EVENT_REQUEST;
+    return has_place ? record->object & ((UINT64_C(1) << PLACE_SHIFT) - 1) : record->object;
+}
+
+/* Returns the number of a record's place, from 1 on, or 0. */
+static inline uint32_t place_of(const struct log *log, const struct record *record) {
+    bool has_place = log->header.version > 1 && record->event >= EVENT_REQUEST;
+    uint32_t place = has_place ? (uint32_t)(record->object >> PLACE_SHIFT) : 0;
+    return place <= PLACE_SLOTS && place && log->header.places[place - 1] ? place : 0;
+}
+
+/* Returns the detail of a record's mutex, or 0 where it isn't known. */
+static inline uint16_t detail_of(const struct record *record) {
+    switch (record->event) {
+    case EVENT_INIT: case EVENT_CEILING: case EVENT_REQUEST: case EVENT_GRANTED: case EVENT_RELEASE:
+        return record->detail & DETAIL_KNOWN ? record->detail : 0;
+    default: return 0;
+    }
+}
+
+static inline bool is_protect(const struct mutex *mutex) {
+    return (mutex->detail & (DETAIL_INHERIT | DETAIL_PROTECT)) == DETAIL_PROTECT;
+}
+
+static inline bool is_recursive(const struct mutex *mutex) {
+    return (mutex->detail & 3) == 1;
+}
+
+/* Returns the level that a priority's detail gives to a thread that had this level. */
+uint8_t level_of(uint16_t detail, uint8_t before);
+
+#endif

@@ -1,0 +1,400 @@
+#define _GNU_SOURCE
+#include "order.h"
+
+#include <stdlib.h>
+#include <string.h>
+
+/* Who owns and awaits what by the lines so far. The owner that isn't known has the number behind
+ * those of the threads. */
+struct order {
+    struct told *told;
+    const struct log *log;
+    struct names *names;
+    struct text *text;
+    uint32_t *owner;           /* by mutex, or NONE */
+    uint32_t *early;           /* by mutex: its RELEASED that is still to come, or NONE */
+    uint32_t *awaits;          /* by thread a mutex, or NONE */
+    uint32_t *blocked;         /* by thread an object, or NONE */
+    uint32_t *releases;        /* by thread: the RELEASED that is still to come, or NONE */
+    uint32_t *level;           /* by thread */
+    bool *is_own;              /* by thread: it waits for itself */
+    struct table owned_before; /* by thread and mutex */
+    uint32_t *declared;        /* the threads, in the order of the log's numbers */
+    uint32_t declared_count;
+    uint32_t unknown_number;   /* of the owner that isn't known */
+    bool is_unknown_declared;
+    uint64_t now;
+};
+
+/* ---- lines ---- */
+
+/* Returns a time as nanoseconds since the recording began. */
+static uint64_t since_begin(const struct log *log, uint64_t time) {
+    uint64_t began = log->header.began_monotonic, since = time > began ? time - began : 0;
+    return since < LAST_TIME ? since : LAST_TIME;
+}
+
+static uint64_t time_of(const struct order *order, const struct fact *fact) {
+    return since_begin(order->log, record_at(order->log, fact->record)->time);
+}
+
+static uint32_t number_of(const struct order *order, uint32_t thread) {
+    bool is_known = thread < order->log->thread_count;
+    return is_known ? order->log->threads[thread].text_number : order->unknown_number;
+}
+
+/* Begins a line of a thread, about a mutex or an object, or NONE. */
+static void begin_line(struct order *order, uint64_t time, uint32_t thread, const char *what,
+                       uint32_t about) {
+    text_time(order->text, time);
+    text_number(order->text, number_of(order, thread));
+    text_word(order->text, what);
+    if (about != NONE) text_number(order->text, (uint64_t)about + 1);
+}
+
+static void put_line(struct order *order, uint32_t thread, const char *what, uint32_t about) {
+    begin_line(order, order->now, thread, what, about);
+    text_end(order->text);
+}
+
+/* Writes the place of a record, and those of the callers. */
+static void put_places(struct order *order, uint32_t record) {
+    static const struct name unknown = { 1, "-" };
+    const struct name *name = name_of_place(order->names, record);
+    if (name->length) text_name(order->text, name);
+    for (int count = 1; name->length && count < MOST_PLACES; count++) {
+        record = order->log->next[record];
+        if (record == NONE || record_at(order->log, record)->event != EVENT_FRAME) break;
+        const struct name *caller = name_of_place(order->names, record);
+        text_name(order->text, caller->length ? caller : &unknown);
+    }
+}
+
+/* Ends a line of a fact with the places that it has. */
+static void end_line(struct order *order, const struct fact *fact) {
+    if (fact && fact->said != NONE) put_places(order, fact->said);
+    text_end(order->text);
+}
+
+/* ---- what a thread stops before it does something else ---- */
+
+/* Of a fact or, of what is added, of none. */
+static void give_up(struct order *order, uint32_t thread, const struct fact *fact) {
+    if (order->awaits[thread] == NONE) return;
+    begin_line(order, order->now, thread, " gave-up", order->awaits[thread]);
+    end_line(order, fact);
+    order->awaits[thread] = NONE;
+}
+
+static void resume(struct order *order, uint32_t thread) {
+    if (order->blocked[thread] == NONE) return;
+    put_line(order, thread, " resumes", order->blocked[thread]);
+    order->blocked[thread] = NONE;
+}
+
+/* A thread releases a mutex that it owns. If it waits, it does so again behind that. */
+static void lose(struct order *order, uint32_t thread, uint32_t mutex, const struct fact *fact) {
+    uint32_t awaited = order->awaits[thread], object = order->blocked[thread];
+    give_up(order, thread, NULL);
+    resume(order, thread);
+    begin_line(order, order->now, thread, " released", mutex);
+    end_line(order, fact);
+    order->owner[mutex] = NONE;
+    if (awaited != NONE) put_line(order, thread, " waits", awaited);
+    if (object != NONE) put_line(order, thread, " blocks", object);
+    order->awaits[thread] = awaited;
+    order->blocked[thread] = object;
+}
+
+/* A release that was told early comes now. */
+static void catch_up(struct order *order, uint32_t release) {
+    if (release == NONE) return;
+    const struct fact *fact = &order->told->facts[release];
+    order->releases[fact->thread] = order->early[fact->mutex] = NONE;
+    lose(order, fact->thread, fact->mutex, fact);
+}
+
+/* ---- facts ---- */
+
+/* A thread owns a mutex. The fact is none where that isn't in the log. */
+static void grant(struct order *order, uint32_t thread, uint32_t mutex, const struct fact *fact) {
+    catch_up(order, order->releases[thread]);
+    catch_up(order, order->early[mutex]);
+    if (order->owner[mutex] != NONE) lose(order, order->owner[mutex], mutex, NULL);
+    resume(order, thread);
+    if (order->awaits[thread] != mutex) give_up(order, thread, NULL);
+    const struct record *record = fact ? record_at(order->log, fact->record) : NULL;
+    bool is_try = record && call_of(record) == CALL_TRYLOCK && order->awaits[thread] == NONE;
+    begin_line(order, order->now, thread, is_try ? " took" : " granted", mutex);
+    end_line(order, fact);
+    order->owner[mutex] = thread;
+    order->awaits[thread] = NONE;
+    *table_at(&order->owned_before, thread, mutex) = 0;
+}
+
+/* The owner that a request found isn't known. */
+static void grant_unknown(struct order *order, uint32_t mutex) {
+    static const struct name nothing = { 1, "-" };
+    if (!order->is_unknown_declared) {
+        text_begin(order->text);
+        text_word(order->text, "thread");
+        text_number(order->text, order->unknown_number);
+        text_number(order->text, LEVEL_OTHER);
+        text_name(order->text, &nothing);
+        text_end(order->text);
+        order->is_unknown_declared = true;
+    }
+    grant(order, order->log->thread_count, mutex, NULL);
+}
+
+/* A request found a mutex owned that is free by the lines so far. */
+static void mend(struct order *order, const struct fact *wait) {
+    uint32_t owner = wait->other, mutex = wait->mutex;
+    if (owner == NONE) {
+        grant_unknown(order, mutex);
+        return;
+    }
+    uint32_t awaited = order->awaits[owner];
+    if (order->blocked[owner] != NONE || (awaited != NONE && awaited != mutex)) return;
+    if (wait->flags & IS_LATE) {
+        struct fact *late = &order->told->facts[wait->link];
+        uint64_t now = order->now, time = time_of(order, late);
+        if (time < now) order->now = time;
+        late->flags |= IS_DONE;
+        grant(order, owner, mutex, late);
+        order->now = now;
+        return;
+    }
+    bool is_missing = wait->flags & IS_NAMED && !(wait->flags & ASKS) && awaited == NONE;
+    if (is_missing && table_get(&order->owned_before, owner, mutex) == NONE)
+        grant(order, owner, mutex, NULL);
+}
+
+static void wait_for(struct order *order, const struct fact *fact) {
+    uint32_t thread = fact->thread, mutex = fact->mutex;
+    catch_up(order, order->releases[thread]);
+    give_up(order, thread, NULL);
+    resume(order, thread);
+    if (order->owner[mutex] == NONE && !(fact->flags & IS_OWN)) mend(order, fact);
+    if (order->owner[mutex] == thread && is_recursive(&order->log->mutexes[mutex])) return;
+    begin_line(order, order->now, thread, " waits", mutex);
+    end_line(order, fact);
+    order->awaits[thread] = mutex;
+    order->is_own[thread] = fact->flags & IS_OWN;
+}
+
+/* A wait ends, unless another one took its place. */
+static void end_wait(struct order *order, const struct fact *fact) {
+    uint32_t thread = fact->thread;
+    catch_up(order, order->releases[thread]);
+    bool is_own = fact->flags & IS_OWN;
+    if (order->awaits[thread] == fact->mutex && order->is_own[thread] == is_own)
+        give_up(order, thread, fact);
+}
+
+static void release(struct order *order, const struct fact *fact) {
+    uint32_t thread = fact->thread, mutex = fact->mutex;
+    catch_up(order, order->releases[thread]);
+    if (order->owner[mutex] != thread) return;
+    if (fact->flags & IS_EARLY) {
+        order->releases[thread] = order->early[mutex] = (uint32_t)(fact - order->told->facts);
+        return;
+    }
+    lose(order, thread, mutex, fact);
+}
+
+static void block(struct order *order, const struct fact *fact) {
+    catch_up(order, order->releases[fact->thread]);
+    give_up(order, fact->thread, NULL);
+    resume(order, fact->thread);
+    begin_line(order, order->now, fact->thread, " blocks", fact->mutex);
+    end_line(order, fact);
+    order->blocked[fact->thread] = fact->mutex;
+}
+
+static void unblock(struct order *order, const struct fact *fact) {
+    if (order->blocked[fact->thread] != fact->mutex) return;
+    begin_line(order, order->now, fact->thread, " resumes", fact->mutex);
+    if (fact->other != NONE) {
+        text_word(order->text, " by");
+        text_number(order->text, number_of(order, fact->other));
+    }
+    if (fact->flags & IS_TIMED_OUT) text_word(order->text, " timed-out");
+    if (fact->flags & HAS_FAILED) text_word(order->text, " failed");
+    text_end(order->text);
+    order->blocked[fact->thread] = NONE;
+}
+
+static void set_level(struct order *order, const struct fact *fact) {
+    if (order->level[fact->thread] == fact->other) return;
+    order->level[fact->thread] = fact->other;
+    begin_line(order, order->now, fact->thread, " priority", NONE);
+    text_number(order->text, fact->other);
+    text_end(order->text);
+}
+
+static void set_ceiling(struct order *order, const struct fact *fact) {
+    begin_line(order, order->now, fact->thread, " ceiling", fact->mutex);
+    text_number(order->text, fact->other);
+    text_end(order->text);
+}
+
+static void put_fact(struct order *order, const struct fact *fact) {
+    if (fact->flags & IS_DONE && fact->what == GRANTED) return;
+    order->now = time_of(order, fact);
+    switch (fact->what) {
+    case WAITS: wait_for(order, fact); break;
+    case GAVE_UP: end_wait(order, fact); break;
+    case RELEASED: release(order, fact); break;
+    case GRANTED: grant(order, fact->thread, fact->mutex, fact); break;
+    case PRIORITY: set_level(order, fact); break;
+    case CEILING: set_ceiling(order, fact); break;
+    case BLOCKS: block(order, fact); break;
+    case RESUMES: unblock(order, fact); break;
+    }
+}
+
+/* ---- declarations ---- */
+
+static const struct thread *sorted_threads;
+
+static int by_number(const void *one, const void *other) {
+    uint32_t a = sorted_threads[*(const uint32_t *)one].log_number;
+    uint32_t b = sorted_threads[*(const uint32_t *)other].log_number;
+    return a < b ? -1 : a > b;
+}
+
+/* Returns the first number from one on that no task has. */
+static uint32_t free_number(const struct table *tasks, uint32_t number, int step) {
+    while (table_get(tasks, number, 0) != NONE) number += (uint32_t)step;
+    return number;
+}
+
+/* Numbers the threads: by their tasks, unless an earlier one has that. */
+static void number_threads(struct order *order) {
+    struct log *log = order->told->log;
+    struct table tasks = { 0 };
+    uint32_t number = 0;
+    order->declared = resized(NULL, (log->thread_count + 1) * sizeof *order->declared);
+    for (uint32_t thread = 0; thread < log->thread_count; thread++) {
+        if (log->threads[thread].first == NONE) continue;
+        order->declared[order->declared_count++] = thread;
+        *table_at(&tasks, log->threads[thread].task, 0) = 0;
+    }
+    if (order->declared_count >= MOST_THREADS) refuse(log->path, "it has more than 65535 threads");
+    sorted_threads = log->threads;
+    qsort(order->declared, order->declared_count, sizeof *order->declared, by_number);
+    for (uint32_t i = 0; i < order->declared_count; i++) {
+        struct thread *thread = &log->threads[order->declared[i]];
+        uint32_t *taken = table_at(&tasks, thread->task, 0);
+        bool is_free = *taken == 0 && thread->task > 0 && thread->task <= LAST_THREAD;
+        *taken = 1;
+        if (!is_free) number = free_number(&tasks, number + 1, 1);
+        thread->text_number = is_free ? thread->task : number;
+        if (!is_free) *table_at(&tasks, number, 0) = 1;
+    }
+    order->unknown_number = free_number(&tasks, LAST_THREAD, -1);
+}
+
+static void declare_threads(struct order *order) {
+    for (uint32_t i = 0; i < order->declared_count; i++) {
+        const struct thread *thread = &order->log->threads[order->declared[i]];
+        struct name name = name_of_thread(order->log, thread);
+        text_begin(order->text);
+        text_word(order->text, "thread");
+        text_number(order->text, thread->text_number);
+        text_number(order->text, thread->first_level);
+        text_name(order->text, &name);
+        text_end(order->text);
+    }
+}
+
+static void declare_mutexes(struct order *order) {
+    for (uint32_t i = 0; i < order->log->mutex_count; i++) {
+        const struct mutex *mutex = &order->log->mutexes[i];
+        struct name name = name_of_mutex(order->names, mutex);
+        bool is_inherit = (mutex->detail & (DETAIL_INHERIT | DETAIL_PROTECT)) == DETAIL_INHERIT;
+        uint32_t ceiling = mutex->detail >> 8;
+        text_begin(order->text);
+        text_word(order->text, "mutex");
+        text_number(order->text, (uint64_t)i + 1);
+        if (is_recursive(mutex)) text_word(order->text, " recursive");
+        text_word(order->text, is_protect(mutex) ? " protect" : is_inherit ? " inherit" : " none");
+        if (is_protect(mutex)) text_number(order->text, ceiling < LEVEL_MOST ? ceiling : LEVEL_MOST);
+        text_name(order->text, &name);
+        text_end(order->text);
+    }
+}
+
+static void declare_objects(struct order *order) {
+    static const char *const kinds[] = { "", " semaphore", " rwlock", " rwlock", " barrier", " thread",
+                                         " condition" };
+    for (uint32_t i = 0; i < order->told->object_count; i++) {
+        const struct object *object = &order->told->objects[i];
+        struct name name = name_of_address(order->names, object->process, object->address);
+        text_begin(order->text);
+        text_word(order->text, "object");
+        text_number(order->text, (uint64_t)i + 1);
+        text_word(order->text, kinds[object->kind]);
+        text_name(order->text, &name);
+        text_end(order->text);
+    }
+}
+
+/* Writes a line of what the recorder couldn't see, if it is something. */
+static void put_unseen(struct order *order, uint64_t count, const char *one, const char *several) {
+    if (count == 0) return;
+    text_begin(order->text);
+    text_word(order->text, "unseen");
+    text_number(order->text, count);
+    text_word(order->text, count == 1 ? one : several);
+    text_end(order->text);
+}
+
+static void declare_unseen(struct order *order) {
+    const struct header *header = &order->log->header;
+    put_unseen(order, header->left_out, " call that the recorder couldn't see whole",
+               " calls that the recorder couldn't see whole");
+    put_unseen(order, header->lost, " record for which the log had no room",
+               " records for which the log had no room");
+    put_unseen(order, header->dropped, " early record that was dropped for later ones",
+               " early records that were dropped for later ones");
+    put_unseen(order, header->unplaced, " record for whose place the log had no room",
+               " records for whose places the log had no room");
+}
+
+/* ---- all of it ---- */
+
+static void make(struct order *order) {
+    uint32_t mutexes = order->log->mutex_count, threads = order->log->thread_count;
+    order->owner = nones(mutexes);
+    order->early = nones(mutexes);
+    order->awaits = nones(threads + 1);
+    order->blocked = nones(threads + 1);
+    order->releases = nones(threads + 1);
+    order->level = nones(threads + 1);
+    order->is_own = memset(resized(NULL, threads + 1), 0, threads + 1);
+    for (uint32_t thread = 0; thread < threads; thread++)
+        order->level[thread] = order->log->threads[thread].first_level;
+}
+
+void write_facts(struct told *told, struct names *names, struct text *text) {
+    struct order order = { .told = told, .log = told->log, .names = names, .text = text };
+    make(&order);
+    number_threads(&order);
+    text_begin(text);
+    text_word(text, "facts 1");
+    text_end(text);
+    declare_threads(&order);
+    declare_mutexes(&order);
+    declare_objects(&order);
+    declare_unseen(&order);
+    for (uint32_t i = 0; i < told->fact_count; i++) put_fact(&order, &told->facts[i]);
+    order.now = since_begin(told->log, told->log->ended);
+    for (uint32_t i = 0; i < order.declared_count; i++)
+        catch_up(&order, order.releases[order.declared[i]]);
+    text_time(text, order.now);
+    text_word(text, " end");
+    text_end(text);
+    text_flush(text);
+}
