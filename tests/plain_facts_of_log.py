@@ -6,6 +6,7 @@ each fact it looks through those before it and behind it.
 import re
 from collections import namedtuple
 
+import plain_facts_of_kernel as plain_kernel
 import plain_other_waits
 from record_logs import log_facts, reader
 
@@ -13,7 +14,7 @@ MOST_LEVEL, MOST_TIME, LAST_THREAD, MOST_THREADS = 100, 10**19 - 1, 2**32 - 2, 6
 NAME_BYTES, INIT_BYTES, MOST_PLACES = 64, 48, 16
 MODULE_BYTES, MOST_PARENTS = 1 << 24, 16
 NOT_PLACES = "by", "failed", "of", "timed-out"
-BLOCKS, RESUMES, UNKNOWN = "blocks", "resumes", "unknown"
+BLOCKS, RESUMES, UNKNOWN, OTHER = "blocks", "resumes", "unknown", "other"
 OF_MUTEX = log_facts.WAITS, log_facts.GAVE_UP, log_facts.RELEASED, log_facts.GRANTED
 SAID_BY = {log_facts.WAITS: reader.REQUEST, log_facts.GRANTED: reader.GRANTED, log_facts.GAVE_UP: reader.FAILED,
            log_facts.RELEASED: reader.RELEASE}
@@ -102,7 +103,7 @@ class Names:
     def places(self, record):
         """Returns the words of a record's place and of its callers."""
         words = [self.place(record)] if record else [None]
-        while words[0] and len(words) < MOST_PLACES:
+        while words[0] and len(words) < MOST_PLACES and record.event in reader.FOLLOWED_BY_FRAME:
             record = self.log.next_of.get(record.number)
             if record is None or record.event != reader.FRAME:
                 break
@@ -120,14 +121,19 @@ class Names:
         return f"{name[:NAME_BYTES - 1 - len(place)]}@{place}"
 
 
-def numbers_of(log):
-    """Returns by thread its number in the text: that in the kernel, unless an earlier thread has it."""
+def numbers_of(log, others):
+    """Returns by thread its number in the text: that in the kernel, unless an earlier thread has it. Tasks that aren't in
+    the log have theirs."""
     tasks, numbers, taken = {task for _, task in log.identity.values()}, {}, set()
     free = (number for number in range(1, LAST_THREAD) if number not in tasks)
     for thread, (_, task) in sorted(log.identity.items()):
         numbers[thread] = next(free) if task in taken or not 0 < task <= LAST_THREAD else task
         taken.add(task)
     taken = tasks | {*numbers.values()}
+    for task in others:
+        if 0 < task <= LAST_THREAD and task not in taken and len(numbers) + 1 < MOST_THREADS:
+            numbers[OTHER, task] = task
+    taken |= {*numbers.values()}
     numbers[UNKNOWN] = next(number for number in range(LAST_THREAD, 0, -1) if number not in taken)
     return numbers
 
@@ -217,24 +223,53 @@ def facts_of(whole, log, blocks):
 class Writer:
     """Writes the lines of facts, and keeps who owns and awaits what by the lines so far."""
 
-    def __init__(self, whole, places):
+    def __init__(self, whole, places, kernel):
         self.whole, self.log = whole, log_facts.Log(whole.records)
         self.names = Names(whole, self.log, places)
         blocks = Blocks(self.log.records).all() if whole.head.version >= reader.KINDS_SINCE else []
-        self.numbers = numbers_of(self.log)
         self.mutexes = numbered(self.log.mutexes.of.values())
-        self.objects = numbered(block.object for block in blocks)
         self.facts = facts_of(whole, self.log, blocks)
+        self.began, self.ended = whole.head.began, max([whole.head.began, *(one.time for one in self.log.records)])
+        self.kernel, self.kernel_facts = None, []
+        self.tasks = {task: thread for thread, (_, task) in sorted(self.log.identity.items(), reverse=True)}
+        if kernel is not None:
+            self.read_kernel(kernel)
+        others = [task for task in (self.kernel.shown() if self.kernel else ()) if task not in self.tasks]
+        self.numbers = numbers_of(self.log, others)
+        self.tasks.update({task: (OTHER, task) for task in others if (OTHER, task) in self.numbers})
+        futexes = sorted((wait.begin, wait.address) for wait in self.kernel.waits if wait.task in self.shown) if self.kernel else ()
+        self.objects = numbered([*(block.object for block in blocks), *(address for _, address in futexes)])
+        self.runs, self.on = {}, {}       # by thread its level in the kernel, its CPU
         self.lines, self.now, self.at = ["facts 1"], 0, 0
         self.owner, self.awaits, self.blocked = {}, {}, {}
         self.early, self.ceiling = {}, {}  # by mutex a release that is still to come; the last ceiling
         self.owned_before, self.is_unknown_declared = set(), False
         self.level = {thread: clamped(self.log.first_level.get(thread, 0)) for thread in self.log.identity}
 
+    def read_kernel(self, data):
+        """Reads the kernel's events. Without a log, the recording begins as they do."""
+        is_alone = not self.whole.records and self.whole.head.process is None
+        kernel = plain_kernel.Kernel(data, None if is_alone else self.began, list(self.logged()))
+        if is_alone:
+            self.began = self.ended = kernel.began
+        self.kernel, self.kernel_facts = kernel, list(kernel.facts())
+        self.ended = max(self.ended, kernel.ended)
+        self.shown = {*self.tasks, *kernel.shown()}
+
+    def logged(self):
+        """Yields the task, the begin and the end of each wait in the log."""
+        first = {thread: task for task, thread in self.tasks.items()}
+        for at, fact in enumerate(self.facts):
+            if fact.what not in (log_facts.WAITS, BLOCKS) or fact.thread not in first:
+                continue
+            behind = (other.time for other in self.facts[at + 1:] if other.thread == fact.thread and other.what in
+                      (log_facts.WAITS, BLOCKS, log_facts.GRANTED, log_facts.GAVE_UP, RESUMES))
+            yield first[fact.thread], fact.time, next(behind, 2**64)
+
     # ---- lines
 
     def since(self, time):
-        return min(max(0, time - self.whole.head.began), MOST_TIME)
+        return min(max(0, time - self.began), MOST_TIME)
 
     def put(self, thread, what, *words, said=None):
         words = [self.now, self.numbers[thread], what, *words, *self.names.places(said)]
@@ -243,6 +278,11 @@ class Writer:
     def declare(self):
         for thread in sorted(self.log.identity):
             self.lines.append(f"thread {self.numbers[thread]} {self.level[thread]} {self.names.threads.get(thread) or '-'}")
+        for task, thread in self.tasks.items():
+            if isinstance(thread, tuple):
+                name = visible(self.kernel.names.get(task, "").encode()[:NAME_BYTES])
+                self.level[thread] = self.kernel.shown()[task]
+                self.lines.append(f"thread {self.numbers[thread]} {self.level[thread]} {name or '-'}")
         ceilings = self.log.mutexes.first_ceilings()
         for mutex, number in self.mutexes.items():
             words = ["mutex", number, *(["recursive"] if self.log.mutexes.is_recursive(mutex) else []),
@@ -251,7 +291,11 @@ class Writer:
                 self.ceiling[mutex] = clamped(ceilings[mutex])
                 words.append(self.ceiling[mutex])
             self.lines.append(" ".join(map(str, [*words, self.names.mutex(mutex)])))
-        for (process, kind, address), number in self.objects.items():
+        for thing, number in self.objects.items():
+            if isinstance(thing, int):
+                self.lines.append(f"object {number} futex {self.names.address(None, thing)}")
+                continue
+            process, kind, address = thing
             self.lines.append(f"object {number} {kind} {self.names.address(process, address)}")
         for field, what, why in UNSEEN:
             count = getattr(self.whole.head, field)
@@ -408,10 +452,55 @@ class Writer:
         self.put(fact.thread, "resumes", self.objects[fact.mutex], *by, *([fact.how] if fact.how else []))
 
     def priority(self, fact):
-        level = clamped(fact.level)
-        if self.level[fact.thread] != level:
-            self.level[fact.thread] = level
-            self.put(fact.thread, "priority", level)
+        level, before = clamped(fact.level), self.level[fact.thread]
+        if before == level:
+            return
+        self.level[fact.thread] = level
+        self.put(fact.thread, "priority", level)
+        runs = self.runs.get(fact.thread)
+        if runs is not None and (runs == before or runs < level):
+            self.runs_at(fact.thread, level)
+
+    # ---- what the kernel did
+
+    def runs_at(self, thread, level):
+        if self.runs.get(thread) != level:
+            self.runs[thread] = level
+            self.put(thread, "runs", level)
+
+    def kernel_until(self, time):
+        """Writes what the kernel did before a time."""
+        while self.kernel_facts and self.kernel_facts[0].time < time:
+            fact = self.kernel_facts.pop(0)
+            self.now, thread = self.since(fact.time), self.tasks.get(fact.task)
+            if fact.what == plain_kernel.LOST:
+                self.lines.append(f"{self.now} lost {min(fact.value, MOST_TIME)}")
+                self.runs, self.on = {}, {}
+            elif thread is not None and self.numbers[thread] <= LAST_THREAD:
+                self.kernel_fact(fact, thread)
+
+    def kernel_fact(self, fact, thread):
+        if fact.what == plain_kernel.RUNS:
+            self.runs_at(thread, fact.value)
+        elif fact.what == plain_kernel.ON:
+            if thread not in self.on and fact.value not in self.on.values():
+                self.on[thread] = fact.value
+                self.put(thread, "on", fact.value)
+        elif fact.what in (plain_kernel.READY, plain_kernel.ASLEEP):
+            self.on.pop(thread, None)
+            self.put(thread, fact.what)
+        elif fact.what == plain_kernel.WAKE and thread not in self.on:
+            self.put(thread, plain_kernel.READY)
+        elif fact.what == plain_kernel.FUTEX:
+            self.catch_up(thread)
+            if thread not in self.awaits and thread not in self.blocked:
+                self.blocked[thread] = fact.value
+                self.put(thread, "blocks", self.objects[fact.value])
+        elif fact.what == plain_kernel.FUTEX_ENDS and self.blocked.get(thread) == fact.value:
+            del self.blocked[thread]
+            by = self.tasks.get(fact.by)
+            words = ["by", self.numbers[by]] if by is not None else [fact.how] if fact.how else []
+            self.put(thread, "resumes", self.objects[fact.value], *words)
 
     def has_ceiling(self, fact):
         level = clamped(fact.level)
@@ -426,13 +515,24 @@ class Writer:
                 log_facts.GRANTED: self.granted, log_facts.PRIORITY: self.priority,
                 log_facts.CEILING: self.has_ceiling, BLOCKS: self.blocks, RESUMES: self.resumes}
         for self.at, fact in enumerate(self.facts):
+            if not fact.is_done:
+                self.kernel_until(fact.time)
             self.now = self.since(fact.time)
             rows[fact.what](fact)
-        ended = max((record.time for record in self.log.records), default=0)
-        self.now = self.since(max(ended, self.whole.head.began))
+        self.kernel_until(2**64)
+        self.now = self.since(self.ended)
         for thread in sorted(self.log.identity):
             self.catch_up(thread)
         return [*self.lines, f"{self.now} end"]
+
+
+class NoLog:
+    """In place of a log: what is asked of one without records."""
+    records = ()
+    head = reader.Head(*([None] * len(reader.Head._fields)))._replace(began=0, version=0)
+
+
+NO_LOG = NoLog()
 
 
 def clamped(level):
@@ -443,6 +543,7 @@ def numbered(things):
     return {thing: number for number, thing in enumerate(dict.fromkeys(things), 1)}
 
 
-def text_of(data, places=b""):
-    """Returns the text of a log's bytes."""
-    return "".join(f"{line}\n" for line in Writer(reader.Log(data), places).all())
+def text_of(data, places=b"", kernel=None):
+    """Returns the text of a log's bytes, which are None where there are the kernel's events alone."""
+    whole = NO_LOG if data is None else reader.Log(data)
+    return "".join(f"{line}\n" for line in Writer(whole, places, kernel).all())

@@ -78,22 +78,22 @@ struct table_entry {
 };
 
 /* Chosen anew by each process, so that no log can be made of which many keys share a place. */
-static uint64_t hash_seed(void) {
-    static uint64_t seed;
-    if (seed == 0 && getrandom(&seed, sizeof seed, GRND_NONBLOCK) != sizeof seed) seed = 1;
-    return seed |= 1;
+static uint64_t seeds[2];
+
+static void choose_seeds(void) {
+    if (getrandom(seeds, sizeof seeds, GRND_NONBLOCK) != sizeof seeds) seeds[0] = 1;
+    seeds[0] |= 1;
 }
 
-static uint64_t mixed(uint64_t value) {
-    value = (value ^ value >> 32) * 0xd6e8feb86659fd93u;
-    value = (value ^ value >> 32) * 0xd6e8feb86659fd93u;
-    return value ^ value >> 32;
+static size_t hash(uint64_t first, uint64_t second) {
+    unsigned __int128 product =
+        (unsigned __int128)(first ^ seeds[0]) * (second ^ seeds[1] ^ 0x9e3779b97f4a7c15u);
+    return (size_t)product ^ (size_t)(product >> 64);
 }
 
 /* Returns the entry of a key, or the free one where it belongs. */
 static struct table_entry *entry_of(const struct table *table, uint64_t first, uint64_t second) {
-    size_t at = (size_t)mixed(mixed(first + hash_seed()) ^ second);
-    for (;; at++) {
+    for (size_t at = hash(first, second);; at++) {
         struct table_entry *entry = &table->entries[at & (table->room - 1)];
         if (!entry->is_used || (entry->first == first && entry->second == second)) return entry;
     }
@@ -101,6 +101,7 @@ static struct table_entry *entry_of(const struct table *table, uint64_t first, u
 
 static void double_table(struct table *table) {
     struct table old = *table;
+    if (seeds[0] == 0) choose_seeds();
     table->room = old.room ? 2 * old.room : 64;
     size_t bytes = table->room * sizeof *table->entries;
     table->entries = memset(resized(NULL, bytes), 0, bytes);

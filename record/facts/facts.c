@@ -18,7 +18,8 @@ static const char help[] =
     "Writes what happened to the threads and mutexes of a recorded program as text, a line for\n"
     "each fact: who was granted which mutex, who waited for it, and who released it, when, at\n"
     "which priority, and where in the code. LOG is the file that pim-record -o names. What\n"
-    "LOG.places says, if it is there, names the places. docs/FACTS.md specifies the text.\n"
+    "LOG.places says, if it is there, names the places, and LOG.kernel says which threads ran\n"
+    "where, at which priority. LOG may be missing then. docs/FACTS.md specifies the text.\n"
     "\n"
     "  -o, --output FILE   write to FILE, not to standard output\n"
     "  -h, --help          print this\n"
@@ -29,7 +30,7 @@ static const char help[] =
     "Status: 0; 2 if LOG can't be read, isn't a log or is damaged, or the text can't be written.\n"
     "Then a line on standard error says why. Nothing is written of a log that is refused.\n";
 
-/* Maps a file that has to be there, or may be missing. Returns an empty one as NULL. */
+/* Maps a file, which may be missing: then this returns NULL. */
 static const char *mapped(const char *path, bool may_lack, size_t *length) {
     struct stat status;
     *length = 0;
@@ -38,7 +39,7 @@ static const char *mapped(const char *path, bool may_lack, size_t *length) {
     if (file < 0 || fstat(file, &status) != 0) refuse(path, "%s", strerror(errno));
     if (!S_ISREG(status.st_mode)) refuse(path, "it isn't a file");
     *length = (size_t)status.st_size;
-    void *bytes = *length ? mmap(NULL, *length, PROT_READ, MAP_PRIVATE, file, 0) : NULL;
+    void *bytes = *length ? mmap(NULL, *length, PROT_READ, MAP_PRIVATE, file, 0) : (void *)"";
     if (bytes == MAP_FAILED) refuse(path, "%s", strerror(errno));
     close(file);
     return bytes;
@@ -54,19 +55,23 @@ static void convert(const char *path, const char *output) {
     static struct names names;
     static struct text text = { .file = STDOUT_FILENO };
     static struct told told = { .log = &log };
-    size_t length, places_length;
-    const char *bytes = mapped(path, false, &length);
-    log_read(&log, path, bytes, length);
+    static struct kernel kernel;
+    size_t length, places_length, kernel_length;
+    const char *kernel_path = beside(path, ".kernel");
+    const char *events = mapped(kernel_path, true, &kernel_length);
+    const char *bytes = mapped(path, events != NULL, &length);
+    if (bytes || !events) log_read(&log, path, bytes, length);
     const char *places = mapped(beside(path, ".places"), true, &places_length);
     names_read(&names, &log, places, places_length);
     find_requests(&told);
     find_waits(&told);
     list_facts(&told);
     mark_order(&told);
+    if (events) kernel_read(&kernel, &told, kernel_path, events, kernel_length);
     text.path = output;
     if (output) text.file = open(output, O_WRONLY | O_CREAT | O_TRUNC | O_CLOEXEC, 0666);
     if (text.file < 0) refuse(output, "%s", strerror(errno));
-    write_facts(&told, &names, &text);
+    write_facts(&told, &kernel, &names, &text);
     if (output && close(text.file) != 0) refuse(output, "%s", strerror(errno));
 }
 

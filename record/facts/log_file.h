@@ -58,6 +58,7 @@ struct log {
     struct name *names;
     struct module *modules;
     uint32_t thread_count, mutex_count, name_count, module_count;
+    bool has_waits; /* for what isn't a mutex */
     struct table by_number; /* the threads */
     struct table parents;   /* by process the one that forked it */
     uint64_t ended;         /* the latest time of a record */
@@ -72,6 +73,19 @@ static inline const char *slot_at(const struct log *log, uint32_t slot) {
 
 static inline const struct record *record_at(const struct log *log, uint32_t record) {
     return (const struct record *)slot_at(log, log->slots[record]);
+}
+
+/* The records of a thread are near each other, and those of several in turn aren't: they are fetched
+ * before they are looked at. */
+enum { AHEAD = 24 };
+
+static inline void log_fetch(const struct log *log, uint32_t record) {
+    __builtin_prefetch(slot_at(log, log->slots[record]));
+}
+
+static inline uint32_t next_record(const struct log *log, uint32_t record) {
+    if (record + AHEAD < log->count) log_fetch(log, record + AHEAD);
+    return record + 1;
 }
 
 static inline uint32_t thread_at(const struct log *log, uint32_t record) {

@@ -9,7 +9,7 @@ struct behind {
     struct told *told;
     uint32_t *lock;  /* by thread: of a mutex */
     uint32_t *grant; /* by mutex: its GRANTED */
-    struct table asks;  /* by thread and mutex: a WAITS or GRANTED */
+    struct table waits; /* by thread and mutex: its WAITS */
     struct table names; /* by thread and mutex: a WAITS whose REQUEST names the thread */
 };
 
@@ -25,14 +25,16 @@ static bool is_late(const struct behind *behind, const struct fact *wait) {
 static void mark_wait(struct behind *behind, uint32_t at) {
     struct fact *wait = &behind->told->facts[at];
     uint32_t owner = wait->other, grant = behind->grant[wait->mutex];
-    if (owner == NONE || owner == wait->thread) return;
+    if (!(wait->flags & IS_FREE) || owner == NONE) return;
     if (is_late(behind, wait)) {
         wait->flags |= IS_LATE;
         wait->link = grant;
     }
-    uint32_t asks = table_get(&behind->asks, owner, wait->mutex);
-    if (asks != NONE && asks <= grant) wait->flags |= ASKS;
+    bool is_next = grant != NONE && behind->told->facts[grant].thread == owner;
+    uint32_t asks = table_get(&behind->waits, owner, wait->mutex);
+    if (is_next || (asks != NONE && asks < grant)) wait->flags |= ASKS;
     if (wait->flags & IS_NAMED) *table_at(&behind->names, owner, wait->mutex) = at;
+    behind->told->has_missing |= !(wait->flags & (IS_LATE | ASKS));
 }
 
 /* A release is told early if a later request names its thread before that, or the next owner, does
@@ -54,8 +56,7 @@ void mark_order(struct told *told) {
         if (fact->what > GRANTED) continue;
         if (fact->what == WAITS) mark_wait(&behind, at);
         if (fact->what == RELEASED) mark_release(&behind, at);
-        if (fact->what == WAITS || fact->what == GRANTED)
-            *table_at(&behind.asks, fact->thread, fact->mutex) = at;
+        if (fact->what == WAITS) *table_at(&behind.waits, fact->thread, fact->mutex) = at;
         if (fact->what == GRANTED) behind.grant[fact->mutex] = at;
         behind.lock[fact->thread] = at;
     }

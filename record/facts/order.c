@@ -4,13 +4,23 @@
 #include <stdlib.h>
 #include <string.h>
 
+/* What the kernel does with a thread. */
+struct running {
+    uint32_t level, cpu; /* or NONE */
+    uint32_t losses;     /* before it was said */
+};
+
 /* Who owns and awaits what by the lines so far. The owner that isn't known has the number behind
  * those of the threads. */
 struct order {
     struct told *told;
     const struct log *log;
+    struct kernel *kernel;
     struct names *names;
     struct text *text;
+    struct running *running;   /* by thread */
+    uint32_t *on;              /* by CPU the thread that is on it, or was before the last loss */
+    uint32_t losses;
     uint32_t *owner;           /* by mutex, or NONE */
     uint32_t *early;           /* by mutex: its RELEASED that is still to come, or NONE */
     uint32_t *awaits;          /* by thread a mutex, or NONE */
@@ -62,7 +72,8 @@ static void put_places(struct order *order, uint32_t record) {
     static const struct name unknown = { 1, "-" };
     const struct name *name = name_of_place(order->names, record);
     if (name->length) text_name(order->text, name);
-    for (int count = 1; name->length && count < MOST_PLACES; count++) {
+    bool is_request = record_at(order->log, record)->event == EVENT_REQUEST;
+    for (int count = 1; name->length && is_request && count < MOST_PLACES; count++) {
         record = order->log->next[record];
         if (record == NONE || record_at(order->log, record)->event != EVENT_FRAME) break;
         const struct name *caller = name_of_place(order->names, record);
@@ -129,7 +140,7 @@ static void grant(struct order *order, uint32_t thread, uint32_t mutex, const st
     end_line(order, fact);
     order->owner[mutex] = thread;
     order->awaits[thread] = NONE;
-    *table_at(&order->owned_before, thread, mutex) = 0;
+    if (order->told->has_missing) *table_at(&order->owned_before, thread, mutex) = 0;
 }
 
 /* The owner that a request found isn't known. */
@@ -175,7 +186,7 @@ static void wait_for(struct order *order, const struct fact *fact) {
     catch_up(order, order->releases[thread]);
     give_up(order, thread, NULL);
     resume(order, thread);
-    if (order->owner[mutex] == NONE && !(fact->flags & IS_OWN)) mend(order, fact);
+    if (order->owner[mutex] == NONE && fact->flags & IS_FREE) mend(order, fact);
     if (order->owner[mutex] == thread && is_recursive(&order->log->mutexes[mutex])) return;
     begin_line(order, order->now, thread, " waits", mutex);
     end_line(order, fact);
@@ -212,25 +223,108 @@ static void block(struct order *order, const struct fact *fact) {
     order->blocked[fact->thread] = fact->mutex;
 }
 
-static void unblock(struct order *order, const struct fact *fact) {
-    if (order->blocked[fact->thread] != fact->mutex) return;
-    begin_line(order, order->now, fact->thread, " resumes", fact->mutex);
-    if (fact->other != NONE) {
-        text_word(order->text, " by");
-        text_number(order->text, number_of(order, fact->other));
-    }
-    if (fact->flags & IS_TIMED_OUT) text_word(order->text, " timed-out");
-    if (fact->flags & HAS_FAILED) text_word(order->text, " failed");
-    text_end(order->text);
-    order->blocked[fact->thread] = NONE;
+/* ---- what the kernel does ---- */
+
+/* Returns what the kernel does with a thread, of which a loss leaves nothing. */
+static struct running *running_of(struct order *order, uint32_t thread) {
+    struct running *running = &order->running[thread];
+    if (running->losses != order->losses) *running = (struct running){ NONE, NONE, order->losses };
+    return running;
 }
 
+/* The kernel runs a thread at a level from now on. */
+static void runs(struct order *order, uint32_t thread, uint32_t level) {
+    struct running *running = running_of(order, thread);
+    if (running->level == level) return;
+    running->level = level;
+    begin_line(order, order->now, thread, " runs", NONE);
+    text_number(order->text, level);
+    text_end(order->text);
+}
+
+/* A thread is on a CPU, unless it is on one already, or another is on it. */
+static void put_on(struct order *order, uint32_t thread, uint32_t cpu) {
+    struct running *running = running_of(order, thread);
+    uint32_t there = order->on[cpu];
+    if (running->cpu != NONE || (there != NONE && running_of(order, there)->cpu == cpu)) return;
+    order->on[cpu] = thread;
+    running->cpu = cpu;
+    begin_line(order, order->now, thread, " on", NONE);
+    text_number(order->text, cpu);
+    text_end(order->text);
+}
+
+static void put_off(struct order *order, uint32_t thread, const char *what) {
+    running_of(order, thread)->cpu = NONE;
+    put_line(order, thread, what, NONE);
+}
+
+static void put_loss(struct order *order, uint64_t count) {
+    text_time(order->text, order->now);
+    text_word(order->text, " lost");
+    text_number(order->text, count < LAST_TIME ? count : LAST_TIME);
+    text_end(order->text);
+    order->losses++;
+}
+
+/* A thread waits for a futex, unless it waits for something by the log. */
+static void wait_for_futex(struct order *order, uint32_t thread, uint32_t object) {
+    catch_up(order, order->releases[thread]);
+    if (order->awaits[thread] != NONE || order->blocked[thread] != NONE) return;
+    put_line(order, thread, " blocks", object);
+    order->blocked[thread] = object;
+}
+
+/* A wait for an object ends. */
+static void unblock(struct order *order, uint32_t thread, uint32_t object, uint32_t by, uint16_t flags) {
+    if (order->blocked[thread] != object) return;
+    begin_line(order, order->now, thread, " resumes", object);
+    if (by != NONE && number_of(order, by)) {
+        text_word(order->text, " by");
+        text_number(order->text, number_of(order, by));
+    }
+    if (flags & IS_TIMED_OUT) text_word(order->text, " timed-out");
+    if (flags & HAS_FAILED) text_word(order->text, " failed");
+    text_end(order->text);
+    order->blocked[thread] = NONE;
+}
+
+static void put_kernel_fact(struct order *order, const struct kernel_fact *fact) {
+    order->now = since_begin(order->log, fact->time);
+    if (fact->what != LOST && number_of(order, fact->thread) == 0) return;
+    switch (fact->what) {
+    case RUNS: runs(order, fact->thread, fact->value); break;
+    case ON: put_on(order, fact->thread, fact->value); break;
+    case READY: put_off(order, fact->thread, " off ready"); break;
+    case ASLEEP: put_off(order, fact->thread, " off asleep"); break;
+    case WAKE:
+        if (running_of(order, fact->thread)->cpu == NONE) put_off(order, fact->thread, " off ready");
+        break;
+    case LOST: put_loss(order, fact->count); break;
+    case FUTEX: wait_for_futex(order, fact->thread, fact->value); break;
+    case FUTEX_ENDS: unblock(order, fact->thread, fact->value, fact->by, fact->flags); break;
+    }
+}
+
+/* Writes what the kernel did before a time. */
+static void put_kernel(struct order *order, uint64_t time) {
+    struct kernel *kernel = order->kernel;
+    while (kernel->next < kernel->count && kernel->facts[kernel->next].time < time)
+        put_kernel_fact(order, &kernel->facts[kernel->next++]);
+}
+
+/* ---- more facts ---- */
+
 static void set_level(struct order *order, const struct fact *fact) {
-    if (order->level[fact->thread] == fact->other) return;
+    uint32_t before = order->level[fact->thread];
+    if (before == fact->other) return;
     order->level[fact->thread] = fact->other;
     begin_line(order, order->now, fact->thread, " priority", NONE);
     text_number(order->text, fact->other);
     text_end(order->text);
+    const struct running *running = running_of(order, fact->thread);
+    bool is_boosted = running->level != before && running->level >= fact->other;
+    if (running->level != NONE && !is_boosted) runs(order, fact->thread, fact->other);
 }
 
 static void set_ceiling(struct order *order, const struct fact *fact) {
@@ -241,6 +335,7 @@ static void set_ceiling(struct order *order, const struct fact *fact) {
 
 static void put_fact(struct order *order, const struct fact *fact) {
     if (fact->flags & IS_DONE && fact->what == GRANTED) return;
+    if (order->kernel->count) put_kernel(order, record_at(order->log, fact->record)->time);
     order->now = time_of(order, fact);
     switch (fact->what) {
     case WAITS: wait_for(order, fact); break;
@@ -250,7 +345,7 @@ static void put_fact(struct order *order, const struct fact *fact) {
     case PRIORITY: set_level(order, fact); break;
     case CEILING: set_ceiling(order, fact); break;
     case BLOCKS: block(order, fact); break;
-    case RESUMES: unblock(order, fact); break;
+    case RESUMES: unblock(order, fact->thread, fact->mutex, fact->other, fact->flags); break;
     }
 }
 
@@ -268,6 +363,20 @@ static int by_number(const void *one, const void *other) {
 static uint32_t free_number(const struct table *tasks, uint32_t number, int step) {
     while (table_get(tasks, number, 0) != NONE) number += (uint32_t)step;
     return number;
+}
+
+/* Numbers the threads that aren't in the log by their tasks. Those that have no room aren't declared. */
+static void number_others(struct order *order, struct table *tasks) {
+    struct log *log = order->told->log;
+    for (uint32_t i = order->kernel->first_other; order->kernel->is_there && i < log->thread_count; i++) {
+        struct thread *thread = &log->threads[i];
+        bool has_room = order->declared_count + 1 < MOST_THREADS && thread->task <= LAST_THREAD;
+        uint32_t *taken = table_at(tasks, thread->task, 0);
+        if (!has_room || *taken != NONE) continue;
+        *taken = 1;
+        thread->text_number = thread->task;
+        order->declared[order->declared_count++] = i;
+    }
 }
 
 /* Numbers the threads: by their tasks, unless an earlier one has that. */
@@ -293,6 +402,7 @@ static void number_threads(struct order *order) {
         thread->text_number = is_free ? thread->task : number;
         if (!is_free) *table_at(&tasks, number, 0) = 1;
     }
+    number_others(order, &tasks);
     order->unknown_number = free_number(&tasks, LAST_THREAD, -1);
 }
 
@@ -328,7 +438,7 @@ static void declare_mutexes(struct order *order) {
 
 static void declare_objects(struct order *order) {
     static const char *const kinds[] = { "", " semaphore", " rwlock", " rwlock", " barrier", " thread",
-                                         " condition" };
+                                         " condition", " futex" };
     for (uint32_t i = 0; i < order->told->object_count; i++) {
         const struct object *object = &order->told->objects[i];
         struct name name = name_of_address(order->names, object->process, object->address);
@@ -373,13 +483,17 @@ static void make(struct order *order) {
     order->blocked = nones(threads + 1);
     order->releases = nones(threads + 1);
     order->level = nones(threads + 1);
+    order->running = resized(NULL, (threads + 1) * sizeof *order->running);
+    order->on = nones(order->kernel->is_there ? MOST_CPUS : 0);
     order->is_own = memset(resized(NULL, threads + 1), 0, threads + 1);
     for (uint32_t thread = 0; thread < threads; thread++)
         order->level[thread] = order->log->threads[thread].first_level;
+    for (uint32_t thread = 0; thread <= threads; thread++)
+        order->running[thread] = (struct running){ NONE, NONE, 0 };
 }
 
-void write_facts(struct told *told, struct names *names, struct text *text) {
-    struct order order = { .told = told, .log = told->log, .names = names, .text = text };
+void write_facts(struct told *told, struct kernel *kernel, struct names *names, struct text *text) {
+    struct order order = { .told = told, .log = told->log, .kernel = kernel, .names = names, .text = text };
     make(&order);
     number_threads(&order);
     text_begin(text);
@@ -389,7 +503,11 @@ void write_facts(struct told *told, struct names *names, struct text *text) {
     declare_mutexes(&order);
     declare_objects(&order);
     declare_unseen(&order);
-    for (uint32_t i = 0; i < told->fact_count; i++) put_fact(&order, &told->facts[i]);
+    for (uint32_t i = 0; i < told->fact_count; i++) {
+        log_fetch(told->log, told->facts[i + AHEAD < told->fact_count ? i + AHEAD : i].record);
+        put_fact(&order, &told->facts[i]);
+    }
+    put_kernel(&order, UINT64_MAX);
     order.now = since_begin(told->log, told->log->ended);
     for (uint32_t i = 0; i < order.declared_count; i++)
         catch_up(&order, order.releases[order.declared[i]]);

@@ -2,6 +2,7 @@
 #ifndef PIM_FACTS_ORDER_H
 #define PIM_FACTS_ORDER_H
 
+#include "kernel.h"
 #include "names.h"
 #include "text.h"
 #include "told.h"
@@ -14,6 +15,6 @@ enum { MOST_THREADS = 65536, MOST_PLACES = 16 };
 void mark_order(struct told *told);
 
 /* Writes the text. */
-void write_facts(struct told *told, struct names *names, struct text *text);
+void write_facts(struct told *told, struct kernel *kernel, struct names *names, struct text *text);
 
 #endif

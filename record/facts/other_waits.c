@@ -141,8 +141,8 @@ static void number_objects(struct told *told) {
 void find_waits(struct told *told) {
     const struct log *log = told->log;
     struct finding finding = { .told = told, .open = nones(log->thread_count) };
-    if (log->header.version < 3) return; /* those before don't say who gives */
-    for (uint32_t at = 0; at < log->count; at++) {
+    if (log->header.version < 3 || !log->has_waits) return; /* those before don't say who gives */
+    for (uint32_t at = 0; at < log->count; at = next_record(log, at)) {
         const struct record *record = record_at(log, at);
         bool is_begin = record->event == EVENT_WAIT || record->event == EVENT_CONDITION;
         bool is_at_barrier = record->event == EVENT_WAIT && record->detail == KIND_BARRIER;

@@ -142,7 +142,7 @@ void find_requests(struct told *told) {
     const struct log *log = told->log;
     struct owners owners;
     make_lists(told, &owners);
-    for (uint32_t at = 0; at < log->count; at++) {
+    for (uint32_t at = 0; at < log->count; at = next_record(log, at)) {
         uint8_t event = record_at(log, at)->event;
         if (event == EVENT_REQUEST) owners.asked[thread_at(log, at)] = log->mutex_of[at];
         if (event == EVENT_GRANTED || event == EVENT_FAILED) answer(told, &owners, at);

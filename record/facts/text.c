@@ -28,23 +28,28 @@ void text_word(struct text *text, const char *word) {
     put(text, word, strlen(word));
 }
 
-void text_number(struct text *text, uint64_t number) {
+/* Puts the digits of a number. */
+static void put_digits(struct text *text, uint64_t number) {
+    static const char pairs[] = "0001020304050607080910111213141516171819202122232425262728293031323334"
+                                "3536373839404142434445464748495051525354555657585960616263646566676869"
+                                "707172737475767778798081828384858687888990919293949596979899";
     char digits[20], *digit = digits + sizeof digits;
-    do {
-        *--digit = (char)('0' + number % 10);
-        number /= 10;
-    } while (number);
-    put(text, " ", 1);
+    for (; number >= 100; number /= 100) memcpy(digit -= 2, pairs + 2 * (number % 100), 2);
+    if (number >= 10)
+        memcpy(digit -= 2, pairs + 2 * number, 2);
+    else
+        *--digit = (char)('0' + number);
     put(text, digit, (size_t)(digits + sizeof digits - digit));
+}
+
+void text_number(struct text *text, uint64_t number) {
+    text->bytes[text->used++] = ' ';
+    put_digits(text, number);
 }
 
 void text_time(struct text *text, uint64_t time) {
     text_begin(text);
-    text_number(text, time);
-    char *line = text->bytes + text->used;
-    while (*--line != ' ') continue;
-    memmove(line, line + 1, (size_t)(text->bytes + text->used - line - 1));
-    text->used--;
+    put_digits(text, time);
 }
 
 void text_name(struct text *text, const struct name *name) {

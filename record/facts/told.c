@@ -35,7 +35,7 @@ static struct fact *put(struct world *world, enum what what, uint32_t thread, ui
     struct told *told = world->told;
     told->facts = with_room(told->facts, told->fact_count, sizeof *told->facts);
     struct fact *fact = &told->facts[told->fact_count++];
-    *fact = (struct fact){ world->at, NONE, thread, mutex, NONE, NONE, (uint8_t)what, 0 };
+    *fact = (struct fact){ world->at, NONE, thread, mutex, NONE, NONE, (uint16_t)what, 0 };
     return fact;
 }
 
@@ -168,6 +168,7 @@ static void request(struct world *world, uint32_t thread, uint32_t mutex) {
     struct fact *fact = say(world, WAITS, thread, mutex);
     fact->other = owner;
     fact->flags = record_at(world->log, world->at)->value ? IS_NAMED : 0;
+    if (world->owner[mutex] == NONE) fact->flags |= IS_FREE;
 }
 
 /* A request that the log lacks. */
@@ -179,6 +180,7 @@ static void add_request(struct world *world, uint32_t call) {
     struct fact *fact = put(world, WAITS, thread, mutex);
     fact->other = first_other(thread, owner, world->last_owner[mutex], NONE);
     fact->said = call;
+    if (owner == NONE) fact->flags |= IS_FREE;
 }
 
 /* ---- grants and releases ---- */
@@ -277,7 +279,7 @@ void list_facts(struct told *told) {
     }
     for (uint32_t thread = 0; thread < threads; thread++)
         world.level[thread] = log->threads[thread].first_level;
-    for (; world.at < log->count; world.at++) {
+    for (; world.at < log->count; world.at = next_record(log, world.at)) {
         mark = tell_waits(&world, mark, false);
         tell(&world);
         mark = tell_waits(&world, mark, true);

@@ -15,6 +15,7 @@ enum {
     IS_DONE = 32,   /* GRANTED: it was told before */
     IS_TIMED_OUT = 64,
     HAS_FAILED = 128,
+    IS_FREE = 256,  /* WAITS: by the records before, nobody owns the mutex */
 };
 
 /* What happened at the time of a record. */
@@ -24,14 +25,16 @@ struct fact {
     uint32_t thread, mutex; /* of BLOCKS and RESUMES an object */
     uint32_t other; /* WAITS: the owner, or NONE; PRIORITY, CEILING: the level; RESUMES: who ended it */
     uint32_t link;  /* GRANTED: its thread's record before, or NONE; WAITS that IS_LATE: the grant */
-    uint8_t what, flags;
+    uint16_t what, flags;
 };
+
+enum { KIND_FUTEX = KIND_CONDITION + 1 };
 
 /* What a thread waits for and isn't a mutex. */
 struct object {
     uint64_t address;
     uint32_t process;
-    uint32_t kind; /* an enum kind; a lock's is KIND_READ */
+    uint32_t kind; /* an enum kind, of which a lock's is KIND_READ; or KIND_FUTEX */
 };
 
 /* The GRANTEDs of each mutex: those of mutex m are from begin[m] on. */
@@ -54,7 +57,7 @@ struct mark {
 struct wait {
     uint32_t begin; /* its WAIT or CONDITION */
     uint32_t object, by;
-    uint8_t flags; /* how it ended */
+    uint16_t flags; /* how it ended */
     bool is_kept;
 };
 
@@ -66,6 +69,7 @@ struct told {
     struct mark *marks;
     struct object *objects;
     struct fact *facts;
+    bool has_missing; /* some grants may be missing: it matters who owned which mutex before */
     uint32_t missing_count, wait_count, mark_count, object_count, fact_count;
 };
 

@@ -1,0 +1,119 @@
+"""What the kernel did, for plain_facts_of_log.py: of the text of LOG.kernel a list of facts, in order. It looks through
+all lines for each of them."""
+from collections import namedtuple
+
+import plain_futex_waits
+from record_logs import reader
+
+kernel_text = reader.kernel_text
+RUNS, ON, READY, ASLEEP, WAKE, LOST, FUTEX, FUTEX_ENDS = "runs", "on", "off ready", "off asleep", "wake", "lost", "blocks", "resumes"
+MOST_CPU = 65535
+# `task` is None of LOST. `value` is a level, a CPU, a number of events or the address of a futex.
+Fact = namedtuple("Fact", "time what task value by how", defaults=(None, None))
+Wait = namedtuple("Wait", "task begin end address outcome by began until")
+
+
+def level_of(priority):
+    return plain_futex_waits.level_of(str(priority))
+
+
+class Waits(plain_futex_waits.Text):
+    """The waits for futexes at all levels, by the places of the lines that begin and end them."""
+
+    def all(self):
+        for begin, line in enumerate(self.lines):
+            found = self.end_of(begin) if line.what == "wait" and line.task else None
+            if found is None:
+                continue
+            end, outcome = found
+            asleep = [at for at in self.own(begin)
+                      if at < end and self.lines[at].what == "switch" and self.lines[at].words[1] in ("S", "D")]
+            if not asleep:
+                continue
+            wakers = [self.lines[at].task for at in range(asleep[0], end) if self.lines[at].what == "wake"
+                      and int(self.lines[at].words[0]) == line.task != self.lines[at].task]
+            by = wakers[-1] if outcome == "woken" and wakers else None
+            is_open = end == len(self.lines)
+            until = self.ended if is_open else self.lines[end].time
+            yield Wait(line.task, begin, None if is_open else end, int(line.words[0], 16), outcome, by, line.time, until)
+
+
+class Kernel:
+    """A recording of the kernel's events, from a time on. `logged` has the times (task, begin, end) in which the log
+    has waits."""
+
+    def __init__(self, data, began, logged):
+        text = data.decode()
+        text = text[:text.rindex("\n") + 1]
+        self.began = kernel_text.KernelText(data).head.began if began is None else began
+        kept = [line for number, line in enumerate(text.splitlines()) if number < plain_futex_waits.HEAD or line.startswith("end")
+                or line.split(" ")[3] == "name" or int(line.split(" ")[0]) >= self.began]
+        whole = kernel_text.KernelText("".join(f"{line}\n" for line in kept).encode())
+        assert whole.faults in ([], ["the end is missing: the recorder was killed, or goes on"]), whole.faults
+        self.events = [event for event in whole.events if event.what != "name"]
+        self.ended = max([whole.head.began, *(event.time for event in whole.events), *([whole.end[0]] if whole.end else [])])
+        self.names = {event.values[0]: event.values[1] for event in whole.events if event.what == "name"}
+        self.losses = sorted((event.values[1], event.time, event.values[0]) for event in whole.lost())
+        waits = Waits("".join(f"{line}\n" for line in kept))
+        waits.ended = self.ended
+        self.waits = [wait for wait in waits.all() if self.is_kept(wait, logged)]
+
+    def is_kept(self, wait, logged):
+        """Returns whether nothing was lost in a wait, and the log hasn't one of the same time."""
+        times = [(begin, end) for begin, end, _ in self.losses] + [(begin, end) for task, begin, end in logged if task == wait.task]
+        return not any(begin <= wait.until and wait.began <= end for begin, end in times)
+
+    def shown(self):
+        """Returns by task the level at which it is first seen to run, in order."""
+        levels = {}
+        for event in self.events:
+            if event.what == "switch":
+                priority, _, other, its = event.values
+                levels.setdefault(event.task, level_of(priority))
+                levels.setdefault(other, level_of(its))
+        levels.pop(0, None)
+        return levels
+
+    def leaves(self, at):
+        """Returns whether the task that a switch puts on a CPU is seen to leave it, before anything is lost."""
+        event = self.events[at]
+        behind = next((other for other in self.events[at + 1:] if (other.what, other.cpu) == ("switch", event.cpu)), None)
+        if behind is None or behind.task != event.values[2] or event.cpu > MOST_CPU:
+            return False
+        return not any(begin < behind.time and end > event.time for begin, end, _ in self.losses)
+
+    def facts(self):
+        left = list(self.losses)
+        for at, event in enumerate(self.events):
+            while left and left[0][0] < event.time:
+                yield from self.lost(left.pop(0))
+            if not any(begin < event.time < end for begin, end, _ in self.losses):
+                yield from self.facts_of(at, event)
+        for loss in left:
+            yield from self.lost(loss)
+
+    @staticmethod
+    def lost(loss):
+        begin, _, count = loss
+        if count:
+            yield Fact(begin, LOST, None, count)
+
+    def facts_of(self, at, event):
+        for wait in self.waits:
+            if wait.end == at:
+                how = {"timed out": "timed-out", "interrupted": "failed"}.get(wait.outcome)
+                yield Fact(event.time, FUTEX_ENDS, wait.task, wait.address, wait.by, how)
+        if event.what == "switch":
+            priority, state, other, its = event.values
+            yield Fact(event.time, RUNS, event.task, level_of(priority))
+            yield Fact(event.time, READY if state.startswith("R") else ASLEEP, event.task, None)
+            yield Fact(event.time, RUNS, other, level_of(its))
+            if self.leaves(at):
+                yield Fact(event.time, ON, other, event.cpu)
+        elif event.what == "setprio":
+            yield Fact(event.time, RUNS, event.values[0], level_of(event.values[2]))
+        elif event.what == "wake":
+            yield Fact(event.time, WAKE, event.values[0], None)
+        for wait in self.waits:
+            if wait.begin == at:
+                yield Fact(event.time, FUTEX, wait.task, wait.address)

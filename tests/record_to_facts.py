@@ -1,0 +1,283 @@
+"""What tests/record does with pim-facts: it writes of logs by hand what is written here, and of recordings, of random
+logs and of random kernel's events what plain_facts_of_log.py writes. Each text is one that the plain reader of facts
+finds valid. Damaged logs are refused, and clang's fuzzer finds no fault, where it is installed."""
+import importlib
+import pathlib
+import shutil
+import subprocess
+import sys
+
+import plain_facts_of_log
+import record_other_waits
+import record_suite
+from checks import ROOT, SECONDS, check, difference, skip
+from random_log import RandomLog
+from record_logs import read_text, reader
+
+CONVERTER, PLAIN = ROOT / "record/out/pim-facts", ROOT / "tests/plain_facts"
+LOGS, FIRST_SEED, FUZZED = 300, 1, 3000
+OTHER_REASONS = ("it contradicts the records before it", "it names no place of the log", "its head isn't whole")
+
+# A log, and what is written of it behind the threads and the mutexes, without `end`.
+BY_HAND = {
+    "a grant that is told late comes before the wait": ("""
+        @1 1 THREAD 0x10 fifo 10
+        @2 2 THREAD 0x20 fifo 80
+        @100 2 REQUEST 0x500 none owner 701
+        @150 1 GRANTED 0x500 none took 60
+        @300 1 RELEASE 0x500 none
+        @310 2 GRANTED 0x500 none took 210
+        """, "100 701 granted 1, 100 702 waits 1, 300 701 released 1, 310 702 granted 1"),
+    "a grant whose call began behind the request is no late one": ("""
+        @1 1 THREAD 0x10 fifo 10
+        @2 2 THREAD 0x20 fifo 80
+        @10 1 GRANTED 0x500 none
+        @20 1 RELEASE 0x500 none
+        @30 1 GRANTED 0x600 none
+        @100 2 REQUEST 0x500 none owner 701
+        @150 1 GRANTED 0x500 none took 40
+        """, "10 701 granted 1, 20 701 released 1, 30 701 granted 2, 100 702 waits 1, 150 701 granted 1"),
+    "a release that is told early comes before the next grant": ("""
+        @1 1 THREAD 0x10 fifo 10
+        @2 2 THREAD 0x20 fifo 80
+        @10 1 GRANTED 0x500 none
+        @100 1 RELEASE 0x500 none
+        @110 2 REQUEST 0x500 none owner 701
+        @300 2 GRANTED 0x500 none took 190
+        """, "10 701 granted 1, 110 702 waits 1, 300 701 released 1, 300 702 granted 1"),
+    "it comes before the next line of its thread": ("""
+        @1 1 THREAD 0x10 fifo 10
+        @2 2 THREAD 0x20 fifo 80
+        @10 1 GRANTED 0x500 none
+        @100 1 RELEASE 0x500 none
+        @110 2 REQUEST 0x500 none owner 701
+        @200 1 GRANTED 0x600 none
+        @300 2 GRANTED 0x500 none took 190
+        """, "10 701 granted 1, 110 702 waits 1, 200 701 released 1, 200 701 granted 2, 300 702 granted 1"),
+    "a request that names no task mends no release": ("""
+        @1 1 THREAD 0x10 fifo 10
+        @2 2 THREAD 0x20 fifo 80
+        @10 1 GRANTED 0x500 none
+        @100 1 RELEASE 0x500 none
+        @110 2 REQUEST 0x500 none owner 0
+        @300 2 GRANTED 0x500 none took 190
+        """, "10 701 granted 1, 100 701 released 1, 110 702 waits 1, 300 702 granted 1"),
+    "a release that nothing follows comes at the end": ("""
+        @1 1 THREAD 0x10 fifo 10
+        @2 2 THREAD 0x20 fifo 80
+        @10 1 GRANTED 0x500 none
+        @100 1 RELEASE 0x500 none
+        @110 2 REQUEST 0x500 none owner 701
+        """, "10 701 granted 1, 110 702 waits 1, 110 701 released 1"),
+    "an owner whose grant the log lacks": ("""
+        @1 1 THREAD 0x10 fifo 10
+        @2 2 THREAD 0x20 fifo 80
+        @110 2 REQUEST 0x500 none owner 701
+        @300 2 GRANTED 0x500 none took 190
+        """, "110 701 granted 1, 110 702 waits 1, 300 701 released 1, 300 702 granted 1"),
+    "an owner that isn't known": ("""
+        @2 2 THREAD 0x20 fifo 80
+        @110 2 REQUEST 0x500 none owner 999
+        @300 2 GRANTED 0x500 none took 190
+        """, "thread 4294967294 0 -, 110 4294967294 granted 1, 110 702 waits 1, 300 4294967294 released 1, "
+             "300 702 granted 1"),
+    "an owner that died and waits": ("""
+        @1 1 THREAD 0x10 fifo 10
+        @2 2 THREAD 0x20 fifo 80
+        @10 1 GRANTED 0x500 none robust
+        @20 2 GRANTED 0x600 none
+        @30 1 REQUEST 0x600 none owner 702
+        @40 2 GRANTED 0x500 none robust died
+        """, "10 701 granted 1, 20 702 granted 2, 30 701 waits 2, 40 701 gave-up 2, 40 701 released 1, "
+             "40 701 waits 2, 40 702 granted 1"),
+    "a mutex that was locked by trylock": ("""
+        @1 1 THREAD 0x10 fifo 10
+        @10 1 GRANTED 0x500 none trylock
+        """, "10 701 took 1"),
+    "a wait for an own mutex": ("""
+        @1 1 THREAD 0x10 fifo 10
+        @10 1 GRANTED 0x500 none
+        @20 1 REQUEST 0x500 none owner 701 timedlock
+        @30 1 FAILED 0x500 took 10 error 110
+        """, "10 701 granted 1, 20 701 waits 1, 30 701 gave-up 1"),
+    "a wait at a condition variable": ("""
+        @1 1 THREAD 0x10 fifo 10
+        @2 2 THREAD 0x20 fifo 80
+        @10 2 GRANTED 0x500 none
+        @20 2 CONDITION 0x700
+        @20 2 RELEASE 0x500 none condition
+        @30 1 GIVE 0x700 condition
+        @40 2 GRANTED 0x500 none condition
+        """, "10 702 granted 1, 20 702 released 1, 20 702 blocks 1, 40 702 resumes 1 by 701, 40 702 granted 1"),
+    "a thread that locks in a handler while it is blocked": ("""
+        @1 1 THREAD 0x10 fifo 10
+        @10 1 WAIT 0x700 semaphore
+        @20 1 GRANTED 0x500 none
+        @30 1 WAITED 0x700 semaphore took 20 error 110
+        """, "10 701 blocks 1, 20 701 resumes 1, 20 701 granted 1"),
+    "waits that time out, fail, and last": ("""
+        @1 1 THREAD 0x10 fifo 10
+        @10 1 WAIT 0x700 semaphore
+        @20 1 WAITED 0x700 semaphore took 10 error 110
+        @30 1 WAIT 0x740 rwlock-write
+        @40 1 WAITED 0x740 rwlock-write took 10 error 35
+        @50 1 WAIT 0x10 thread
+        """, "10 701 blocks 1, 20 701 resumes 1 timed-out, 30 701 blocks 2, 40 701 resumes 2 failed, 50 701 blocks 3"),
+}
+
+
+def plain_reader():
+    """Returns the plain reader of facts as a module, or None. Its modules have names that others have, too."""
+    names = "reading", "world", "rows"
+    own = {name: sys.modules.pop(name) for name in names if name in sys.modules}
+    sys.path.insert(0, str(PLAIN))
+    try:
+        return importlib.import_module("rows")
+    except ModuleNotFoundError:
+        return None
+    finally:
+        sys.path.remove(str(PLAIN))
+        for name in names:
+            sys.modules.pop(name, None)
+        sys.modules.update(own)
+
+
+class Converter:
+    """Runs pim-facts on recordings in a folder, and compares what it writes."""
+
+    def __init__(self, folder):
+        self.path, self.rows, self.words = pathlib.Path(folder, "facts"), plain_reader(), set()
+
+    def run(self, log=None, places=None, kernel=None):
+        """Returns status, text and what is said of a recording, without its path."""
+        for end, data in (("", log), (".places", places), (".kernel", kernel)):
+            path = pathlib.Path(f"{self.path}{end}")
+            if data is None:
+                path.unlink(missing_ok=True)
+            else:
+                path.write_bytes(data)
+        done = subprocess.run([CONVERTER, self.path], capture_output=True, timeout=SECONDS, check=False)
+        return done.returncode, done.stdout, done.stderr.decode().replace(str(self.path), "LOG")
+
+    def why(self, log=None, places=None, kernel=None):
+        """Returns how the text of a recording differs from that of the plain implementation, or why it isn't valid."""
+        status, out, said = self.run(log, places, kernel)
+        wanted = plain_facts_of_log.text_of(log, places or b"", kernel)
+        got = difference((status, said, *out.decode().splitlines()), (0, "", *wanted.splitlines()))
+        self.words |= {word for line in wanted.splitlines() for word in line.split()[:6] if word.isalpha() or "-" in word}
+        return got or self.fault(out)
+
+    def fault(self, text):
+        return self.rows and (self.rows.answer(text)[1].strip() or None)
+
+
+def by_hand(converter):
+    for name, (log, wanted) in BY_HAND.items():
+        wanted = [line.strip() for line in wanted.split(",")]
+        data = bytes(read_text(log))
+        status, out, said = converter.run(data)
+        begin = ("facts", "mutex", "object")
+        lines = [line for line in out.decode().splitlines()
+                 if not line.startswith(begin) and not (line.startswith("thread 7") or line.endswith(" end"))]
+        check(f"facts of a log: {name}",
+              difference((status, said, *lines), (0, "", *wanted)) or converter.why(data))
+
+
+def recordings(converter):
+    """Recordings that are kept, and those by hand, of which some are refused."""
+    for path in sorted((ROOT / "record/recorded").glob("*.log")):
+        kernel = pathlib.Path(f"{path}.kernel")
+        why = converter.why(path.read_bytes(), None, kernel.read_bytes() if kernel.exists() else None)
+        check(f"the facts of {path.name}", why)
+    for case in record_suite.stored():
+        log = case.log and bytes(case.log)
+        error = case.wanted.get("error", OTHER_REASONS[0])
+        if any(reason in error for reason in OTHER_REASONS):
+            check(f"the facts of {case.name}", None if "head" in error else converter.why(log, case.places, case.kernel))
+            continue
+        status, out, said = converter.run(log, case.places, case.kernel)
+        said = said.removeprefix("pim-facts: LOG").removeprefix(".kernel").removeprefix(": ")
+        check(f"pim-facts refuses {case.name}", difference((status, out, said), (2, b"", error)))
+
+
+def random_logs(converter):
+    """Random logs, of which each third is damaged, and random ones of waits for what isn't a mutex."""
+    differ = {}
+    for seed in range(FIRST_SEED, FIRST_SEED + LOGS):
+        kinds = {"log": RandomLog(seed).data()} | ({} if seed % 3 else {"other": record_other_waits.random_log(seed)})
+        for kind, data in kinds.items():
+            why = converter.why(bytes(data))
+            differ.update({f"{kind} {seed}: {why}": why} if why else {})
+    check(f"pim-facts writes of {LOGS} random logs what the plain implementation writes", next(iter(differ), None))
+
+
+def every_word(converter):
+    words = ("granted took waits gave-up released priority ceiling blocks resumes by timed-out failed none inherit protect"
+             " recursive semaphore rwlock barrier thread condition unseen end")
+    missing = [word for word in words.split() if word not in converter.words]
+    check("each word of facts is among these", f"no {missing}" if missing else None)
+
+
+def command(converter):
+    """What the command line and files that can't be used lead to."""
+    log, output = converter.path, pathlib.Path(f"{converter.path}.out")
+    data = (ROOT / "record/recorded/random.log").read_bytes()
+    _, text, _ = converter.run(data)
+    run = lambda *words: subprocess.run([CONVERTER, *words], capture_output=True, timeout=SECONDS, check=False)
+    helped = run("--help")
+    is_told = all(word in helped.stdout for word in (b"usage: pim-facts", b"Status:", b"$ pim-facts run"))
+    check("pim-facts --help says how it is used", difference((helped.returncode, is_told), (0, True)))
+    for option in ("-o", "--output"):
+        done = run(option, output, log)
+        check(f"pim-facts {option} writes a file",
+              difference((done.returncode, done.stdout, output.read_bytes() == text), (0, b"", True)))
+        output.unlink()
+    refused = {"no log": [], "two logs": [log, log], "an unknown option": ["-x", log], "no such file": [f"{log}.none"],
+               "a folder": [log.parent], "a file of a folder that isn't there": ["-o", f"{log}.none/facts", log]}
+    for what, words in refused.items():
+        done = run(*words)
+        is_one = done.stderr.count(b"\n") in (1, 2) and b"pim-facts" in done.stderr
+        check(f"pim-facts refuses {what}", difference((done.returncode, done.stdout, is_one), (2, b"", True)))
+    log.write_bytes(data[:100])
+    done = run("-o", output, log)
+    check("nothing is written of a log that is refused", difference((done.returncode, output.exists()), (2, False)))
+    with open("/dev/full", "wb") as full:
+        log.write_bytes(data)
+        done = subprocess.run([CONVERTER, log], stdout=full, stderr=subprocess.PIPE, timeout=SECONDS, check=False)
+    check("a text that can't be written is said",
+          difference((done.returncode, done.stderr), (2, b"pim-facts: standard output: No space left on device\n")))
+
+
+def generated(converter):
+    """Logs of many records take no time that grows with their square, whatever is in them."""
+    generate = ROOT / "record/out/generate"
+    for options in (["-t", "300", "-m", "1", "-c", "100"], ["-t", "1", "-m", "1"], ["-t", "16", "-m", "50000"]):
+        subprocess.run([generate, "-n", "200000", *options, converter.path], check=True, timeout=SECONDS)
+        done = subprocess.run([CONVERTER, converter.path], capture_output=True, timeout=20, check=False)
+        check(f"facts of 200,000 records: generate {' '.join(options)}",
+              difference((done.returncode, done.stdout.count(b"\n") > 140000), (0, True)))
+
+
+def fuzz():
+    name = f"{FUZZED} made inputs have no fault"
+    probe = subprocess.run(["clang", "-fsanitize=fuzzer", "-x", "c", "-", "-o", "/dev/null"], capture_output=True, text=True,
+                           input="int LLVMFuzzerTestOneInput(const char *d, unsigned long s) { return !d && s; }",
+                           check=False) if shutil.which("clang") else None
+    if probe is None or probe.returncode:
+        return skip(name, "there is no clang with a fuzzer")
+    done = subprocess.run(["make", "-s", "-C", ROOT / "record", "fuzz-facts", f"RUNS={FUZZED}"], capture_output=True,
+                          text=True, errors="replace", timeout=SECONDS, check=False)
+    return check(name, done.stderr[-600:] if done.returncode else None)
+
+
+def to_facts(folder):
+    converter = Converter(folder)
+    by_hand(converter)
+    recordings(converter)
+    random_logs(converter)
+    every_word(converter)
+    command(converter)
+    generated(converter)
+    fuzz()
+    if converter.rows is None:
+        skip("each text is valid", f"there is no {PLAIN.name}")
