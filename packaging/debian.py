@@ -5,7 +5,7 @@ import os
 import shutil
 
 from files import ROOT, copy, filled, fix_modes, highest, run, write, zipped
-from programs import PROGRAMS, SCRIPTS, binaries, glibc_of
+from programs import COMMANDS, PROGRAMS, SCRIPTS, binaries, glibc_of
 
 # A package's first revision of a version.
 REVISION = 1
@@ -105,7 +105,7 @@ def fill(root, programs):
         else:
             copy(path, own / name)
     (root / "usr/bin").mkdir(parents=True)
-    for name in (*PROGRAMS, *SCRIPTS):
+    for name in (*PROGRAMS, *SCRIPTS, *COMMANDS):
         (root / "usr/bin" / os.path.basename(name)).symlink_to(f"../lib/kulgyozi/{name}")
     for script in SCRIPTS:
         text = (own / script).read_text()

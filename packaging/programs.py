@@ -9,6 +9,8 @@ PROGRAMS = {"pim": "pim", "pim-import": "pim_importer", "pim-picture": "pim_pict
 # Those of other languages.
 SCRIPTS = ("record/pim-record", "record/pim-log", "conform/pim-conform")
 PAGE, CRATES = ROOT / "web/dist/index.html", ROOT / "launcher/crates"
+# Commands that a C compiler makes.
+COMMANDS = ("record/out/pim-facts",)
 # What is copied as it is.
 COPIED = """
 README.md CHANGELOG.md SECURITY.md VERSION docs examples web/README.md web/inversion.svg
@@ -21,7 +23,7 @@ conform/set conform/performed
 """.split()
 # What a C compiler makes: the folder, the target and the files.
 COMPILED = (
-    ("record", "recorder", ("libpim_record.so", "pim-launch")),
+    ("record", "recorder", ("libpim_record.so", "pim-launch", "pim-facts")),
     ("conform", "all", ("perform",)),
 )
 
@@ -37,7 +39,7 @@ def build(to, work):
         run(ROOT / program, "install", work / "installed")
         copy(work / f"installed/share/man/man1/{program}.1", to / f"man/man1/{program}.1")
         link(crate, work, to / program)
-    for script in SCRIPTS:
+    for script in (*SCRIPTS, *(command.replace("/out/", "/") for command in COMMANDS)):
         page = (ROOT / f"{script}.1.in").read_text()
         write(to / f"man/man1/{script.rpartition('/')[2]}.1", filled(page, VERSION=version.current()))
     for folder, target, files in COMPILED:

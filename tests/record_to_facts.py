@@ -3,19 +3,23 @@ logs and of random kernel's events what plain_facts_of_log.py writes. Each text 
 finds valid. Damaged logs are refused, and clang's fuzzer finds no fault, where it is installed."""
 import importlib
 import pathlib
+import re
 import shutil
 import subprocess
 import sys
 
 import plain_facts_of_log
+import record_futex_waits
 import record_other_waits
 import record_suite
 from checks import ROOT, SECONDS, check, difference, skip
 from random_log import RandomLog
+from random_program import FIRST_TASK
 from record_logs import read_text, reader
 
 CONVERTER, PLAIN = ROOT / "record/out/pim-facts", ROOT / "tests/plain_facts"
-LOGS, FIRST_SEED, FUZZED = 300, 1, 3000
+LOGS, TEXTS, FIRST_SEED, FUZZED = 250, 15, 1, 3000
+MOST_LINES = 250  # of the kernel's events
 OTHER_REASONS = ("it contradicts the records before it", "it names no place of the log", "its head isn't whole")
 
 # A log, and what is written of it behind the threads and the mutexes, without `end`.
@@ -211,9 +215,28 @@ def random_logs(converter):
     check(f"pim-facts writes of {LOGS} random logs what the plain implementation writes", next(iter(differ), None))
 
 
+def kernel_of(seed):
+    """Returns random events of the kernel, of which some tasks are those of the random logs."""
+    task = lambda word: str(int(word[0]) - record_futex_waits.TASKS[0] + FIRST_TASK)
+    text = re.sub(r"(?<![-\w])1[1-4]\b", task, record_futex_waits.random_text(seed))
+    return "".join(text.splitlines(keepends=True)[:MOST_LINES]).encode()
+
+
+def random_events(converter):
+    """Random events of the kernel, alone and of the time of a random log. Most break laws of their form."""
+    differ = {}
+    for seed in range(FIRST_SEED, FIRST_SEED + TEXTS):
+        kinds = {"alone": None, "of a log": RandomLog(seed).data(), "of other waits": record_other_waits.random_log(seed)}
+        for kind, data in kinds.items():
+            why = converter.why(data and bytes(data), None, kernel_of(seed))
+            differ.update({f"{kind} {seed}: {why}": why} if why else {})
+    check(f"pim-facts writes of {TEXTS} random texts of the kernel's events what the plain implementation writes",
+          next(iter(differ), None))
+
+
 def every_word(converter):
     words = ("granted took waits gave-up released priority ceiling blocks resumes by timed-out failed none inherit protect"
-             " recursive semaphore rwlock barrier thread condition unseen end")
+             " recursive semaphore rwlock barrier thread condition futex runs on off ready asleep lost unseen end")
     missing = [word for word in words.split() if word not in converter.words]
     check("each word of facts is among these", f"no {missing}" if missing else None)
 
@@ -275,6 +298,7 @@ def to_facts(folder):
     by_hand(converter)
     recordings(converter)
     random_logs(converter)
+    random_events(converter)
     every_word(converter)
     command(converter)
     generated(converter)

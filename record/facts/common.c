@@ -86,8 +86,8 @@ static void choose_seeds(void) {
 }
 
 static size_t hash(uint64_t first, uint64_t second) {
-    unsigned __int128 product =
-        (unsigned __int128)(first ^ seeds[0]) * (second ^ seeds[1] ^ 0x9e3779b97f4a7c15u);
+    unsigned __int128 product = (unsigned __int128)(first ^ seeds[0]) *
+                                (second ^ seeds[1] ^ 0x9e3779b97f4a7c15u);
     return (size_t)product ^ (size_t)(product >> 64);
 }
 

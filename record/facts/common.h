@@ -30,7 +30,8 @@ struct table {
     size_t room, count;
 };
 
-/* Returns where the number of a key is, which is NONE if the key is new. The next call may move it. */
+/* Returns where the number of a key is, which is NONE if the key is new. The next call may move
+ * it. */
 uint32_t *table_at(struct table *table, uint64_t first, uint64_t second);
 
 /* Returns the number of a key, or NONE. */

@@ -109,7 +109,8 @@ static void read_call(struct line *line, struct kernel_event *event, bool is_wai
 }
 
 /* Reads what is behind the task of a line. */
-static void read_event(struct line *line, struct kernel_event *event, const char *bytes, bool is_first) {
+static void read_event(struct line *line, struct kernel_event *event, const char *bytes,
+                       bool is_first) {
     if (take(line, " switch")) {
         event->what = SWITCH;
         event->level = level(line);
@@ -152,14 +153,15 @@ _Noreturn static void refuse_line(const struct events *events, uint64_t number, 
 
 static bool is_word(struct line *line) {
     const char *begin = line->at;
-    while (line->at < line->end && *line->at > 32 && *line->at < 127) line->at++;
+    while (line->at<line->end && * line->at> 32 && *line->at < 127) line->at++;
     return line->at > begin;
 }
 
 /* Reads a line of the head. Returns what is wrong with it, or NULL. */
-static const char *head_fault(struct events *events, struct line *line, int which, bool *is_first) {
+static const char *head_fault(struct events *events, struct line *line, int which,
+                              bool *is_first) {
     static const char *const begins[HEAD_LINES] = { "pim-kernel ", "kernel ", "clock ",
-                                                    "process ", "began ", "cpus " };
+                                                    "process ",    "began ",  "cpus " };
     bool is_begun = take(line, begins[which]), is_mono;
     uint64_t value;
     const char *fault = "it isn't the line that the head has there";
@@ -167,14 +169,18 @@ static const char *head_fault(struct events *events, struct line *line, int whic
     case 0:
         if (!is_begun) return "it isn't a recording of the kernel's events";
         *is_first = is_next(line, "1");
-        return (take(line, "1") || take(line, "2")) && line->at == line->end ? NULL : "its version isn't known";
+        return (take(line, "1") || take(line, "2")) && line->at == line->end
+                   ? NULL
+                   : "its version isn't known";
     case 1:
         is_begun = is_begun && is_word(line) && take(line, " ") && is_word(line);
         return is_begun && line->at == line->end ? NULL : fault;
     case 2:
         is_mono = take(line, "mono") && line->at == line->end;
-        return is_mono ? NULL : is_begun && is_word(line) && line->at == line->end
-                   ? "its clock isn't that of the log" : fault;
+        return is_mono ? NULL
+               : is_begun && is_word(line) && line->at == line->end
+                   ? "its clock isn't that of the log"
+                   : fault;
     default:
         value = number(line);
         if (which == 4) events->began = value;
@@ -202,8 +208,7 @@ static const char *line_fault(struct events *events, struct line line, bool is_f
         return is_first ? "it has no form of version 1" : "it has no form of version 2";
     bool is_lost = event.what == LOSS && !*has_ended;
     bool is_stretch = event.since >= events->began && event.since <= event.time;
-    if (event.time < events->ended || (is_lost && !is_stretch))
-        return "its time is out of order";
+    if (event.time < events->ended || (is_lost && !is_stretch)) return "its time is out of order";
     events->ended = event.time;
     if (*has_ended) return NULL;
     events->list = with_room(events->list, events->count, sizeof *events->list);
@@ -216,7 +221,8 @@ void events_read(struct events *events, const char *path, const char *bytes, siz
     bool is_first = false, has_ended = false;
     uint64_t count = 0;
     *events = (struct events){ .path = path, .bytes = bytes };
-    for (const char *newline; bytes < end && (newline = memchr(bytes, '\n', (size_t)(end - bytes)));
+    for (const char *newline;
+         bytes < end && (newline = memchr(bytes, '\n', (size_t)(end - bytes)));
          bytes = newline + 1, count++) {
         struct line line = { bytes, newline, false };
         const char *fault = count < HEAD_LINES ? head_fault(events, &line, (int)count, &is_first)

@@ -11,9 +11,9 @@ struct kernel_event {
     uint64_t value; /* WAIT_CALL: the address; LOSS: how many; NAMED: the offset of the name */
     uint64_t since; /* LOSS: the time of the first */
     int64_t result; /* RETURN */
-    uint32_t cpu, task, other; /* SWITCH, SETPRIO, WOKEN, NAMED: the other task */
+    uint32_t cpu, task, other;  /* SWITCH, SETPRIO, WOKEN, NAMED: the other task */
     uint8_t level, other_level; /* SWITCH: of both */
-    char state[2]; /* SWITCH: a letter, and + or 0 */
+    char state[2];              /* SWITCH: a letter, and + or 0 */
     uint8_t what;
 };
 

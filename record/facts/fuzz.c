@@ -1,5 +1,6 @@
 /* Converts what a fuzzer makes: `make fuzz-facts` in record/. The first byte of an input says what
- * the others are: LOG.places, or the records of a log, or bytes to change in it and its records. */
+ * the others are: LOG.places, or the records of a log, or bytes to change in it and its records.
+ */
 #define _GNU_SOURCE
 #include "order.h"
 
@@ -63,8 +64,11 @@ static struct header *make_log(size_t length) {
     header->began_monotonic = 1000;
     for (uint64_t i = 0; i < 16; i++) header->places[i] = 0x401000 + i;
     for (uint32_t i = 0; i < THREADS; i++) {
-        struct chunk_head *head = (struct chunk_head *)((char *)header + HEADER_BYTES + i * CHUNK_BYTES);
-        *head = (struct chunk_head){ .mark = CHUNK_MARK, .process = 7 + i / 3, .task = 10 + i, .thread = i + 1 };
+        struct chunk_head *head = (struct chunk_head *)((char *)header + HEADER_BYTES +
+                                                        i * CHUNK_BYTES);
+        *head = (struct chunk_head){
+            .mark = CHUNK_MARK, .process = 7 + i / 3, .task = 10 + i, .thread = i + 1
+        };
     }
     return header;
 }
@@ -79,8 +83,11 @@ static struct record record_of(const uint8_t *seed) {
     if (seed[2] & 128) object = seed[3];
     if (has_place) object |= (uint64_t)(seed[4] % 18) << PLACE_SHIFT;
     uint16_t detail = seed[5] & 128 ? (uint16_t)(seed[5] << 8 | seed[6]) : details[seed[5] & 7];
-    return (struct record){ .object = object, .value = values[seed[7] & 7], .detail = detail,
-                            .event = event, .how = seed[8] & 128 ? seed[9] : seed[8] % 5 };
+    return (struct record){ .object = object,
+                            .value = values[seed[7] & 7],
+                            .detail = detail,
+                            .event = event,
+                            .how = seed[8] & 128 ? seed[9] : seed[8] % 5 };
 }
 
 /* Fills the chunks with records. */
@@ -90,8 +97,9 @@ static void fill(struct header *header, const uint8_t *data, size_t size) {
     for (; size >= RECORD_SEED; data += RECORD_SEED, size -= RECORD_SEED) {
         uint32_t thread = data[0] % THREADS;
         if (++used[thread] >= CHUNK_RECORDS) break;
-        struct record *record =
-            (struct record *)((char *)header + HEADER_BYTES + thread * CHUNK_BYTES) + used[thread];
+        struct record *record = (struct record *)((char *)header + HEADER_BYTES +
+                                                  thread * CHUNK_BYTES) +
+                                used[thread];
         *record = record_of(data);
         record->time = now += data[10] * 16u;
         if (data[11] & 128) record->time = now - data[11];
@@ -112,9 +120,11 @@ static size_t change(char *log, size_t length, const uint8_t *data, size_t size)
     return done < size ? done : size;
 }
 
-/* Makes lines of the kernel's events, each of 8 bytes, or has the bytes themselves behind a head. */
+/* Makes lines of the kernel's events, each of 8 bytes, or has the bytes themselves behind a head.
+ */
 static char *make_events(const uint8_t *data, size_t size, size_t *length) {
-    static const char head[] = "pim-kernel 2\nkernel 6 x\nclock mono\nprocess 10\nbegan 900\ncpus 2\n";
+    static const char head[] =
+        "pim-kernel 2\nkernel 6 x\nclock mono\nprocess 10\nbegan 900\ncpus 2\n";
     static const char *const states[] = { "S", "R", "R+", "D", "X", "S", "S", "0x5" };
     size_t room = sizeof head + size * 16 + 64;
     char *events = malloc(room), *at = events + sprintf(events, "%s", head);
@@ -123,13 +133,18 @@ static char *make_events(const uint8_t *data, size_t size, size_t *length) {
         now += data[1] * 4u;
         at += sprintf(at, "%lu %d %d ", (unsigned long)now, data[2] & 1, 10 + data[2] / 2 % 5);
         switch (data[0] % 6) {
-        case 0: case 1: at += sprintf(at, "switch %d %s %d %d\n", data[3] % 142 - 1, states[data[4] & 7],
-                                      data[5] % 6 ? 9 + data[5] % 6 : 0, data[6] % 141); break;
+        case 0:
+        case 1:
+            at += sprintf(at, "switch %d %s %d %d\n", data[3] % 142 - 1, states[data[4] & 7],
+                          data[5] % 6 ? 9 + data[5] % 6 : 0, data[6] % 141);
+            break;
         case 2: at += sprintf(at, "wait 0x%x private\n", data[3] & 3); break;
         case 3: at += sprintf(at, "return %d\n", data[3] & 1 ? 0 : -(int)data[4]); break;
         case 4: at += sprintf(at, "wake %d\n", 10 + data[3] % 5); break;
-        default: at += data[3] & 1 ? sprintf(at, "lost %d %lu\n", data[4], (unsigned long)now - data[5] % 100)
-                                   : sprintf(at, "setprio %d 89 %d\n", 10 + data[4] % 5, data[5] % 141);
+        default:
+            at += data[3] & 1
+                      ? sprintf(at, "lost %d %lu\n", data[4], (unsigned long)now - data[5] % 100)
+                      : sprintf(at, "setprio %d 89 %d\n", 10 + data[4] % 5, data[5] % 141);
         }
     }
     memcpy(at, data, size);

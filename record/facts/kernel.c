@@ -34,7 +34,7 @@ struct reading {
     struct told *told;
     struct log *log;
     struct events events;
-    struct table tasks;    /* the threads */
+    struct table tasks; /* the threads */
     struct stretch *losses;
     struct futex_wait *waits;
     struct interval *intervals;
@@ -50,8 +50,9 @@ static void add_thread(struct reading *reading, uint32_t task, uint8_t level) {
     uint32_t *thread = table_at(&reading->tasks, task, 0);
     if (task == 0 || *thread != NONE) return;
     log->threads = with_room(log->threads, log->thread_count, sizeof *log->threads);
-    log->threads[log->thread_count] = (struct thread){ .task = task, .name = NONE, .first = NONE,
-                                                       .last = NONE, .first_level = level };
+    log->threads[log->thread_count] = (struct thread){
+        .task = task, .name = NONE, .first = NONE, .last = NONE, .first_level = level
+    };
     *thread = log->thread_count++;
 }
 
@@ -62,7 +63,8 @@ static void find_threads(struct reading *reading) {
     for (uint32_t i = 0; i < known; i++) {
         uint32_t *thread = table_at(&reading->tasks, log->threads[i].task, 0);
         if (log->threads[i].first == NONE) continue;
-        if (*thread == NONE || log->threads[i].log_number < log->threads[*thread].log_number) *thread = i;
+        if (*thread == NONE || log->threads[i].log_number < log->threads[*thread].log_number)
+            *thread = i;
     }
     for (uint32_t i = 0; i < reading->events.count; i++) {
         const struct kernel_event *event = &reading->events.list[i];
@@ -72,12 +74,14 @@ static void find_threads(struct reading *reading) {
     }
     for (uint32_t i = 0; i < reading->events.count; i++) {
         const struct kernel_event *event = &reading->events.list[i];
-        uint32_t thread = event->what == NAMED ? table_get(&reading->tasks, event->other, 0) : NONE;
+        uint32_t thread = event->what == NAMED ? table_get(&reading->tasks, event->other, 0)
+                                               : NONE;
         if (thread == NONE || thread < known) continue;
         const char *name = reading->events.bytes + event->value;
         log->names = with_room(log->names, log->name_count, sizeof *log->names);
         struct name *its = &log->names[log->threads[thread].name = log->name_count++];
-        for (its->length = 0; its->length < NAME_BYTES && *name > 32; name++) its->bytes[its->length++] = *name;
+        for (its->length = 0; its->length<NAME_BYTES && * name> 32; name++)
+            its->bytes[its->length++] = *name;
     }
 }
 
@@ -94,8 +98,8 @@ static void find_losses(struct reading *reading) {
         const struct kernel_event *event = &reading->events.list[i];
         if (event->what != LOSS || event->time < reading->log->header.began_monotonic) continue;
         reading->losses = with_room(reading->losses, reading->loss_count, sizeof *reading->losses);
-        reading->losses[reading->loss_count++] =
-            (struct stretch){ event->since, event->time, event->value, i };
+        reading->losses[reading->loss_count++] = (struct stretch){ event->since, event->time,
+                                                                   event->value, i };
     }
     if (reading->loss_count)
         qsort(reading->losses, reading->loss_count, sizeof *reading->losses, by_begin);
@@ -143,8 +147,10 @@ static void find_intervals(struct reading *reading) {
         bool is_end = fact->what == GRANTED || fact->what == GAVE_UP || fact->what == RESUMES;
         if (is_begin || is_end) end_interval(reading, open, fact->thread, time);
         if (!is_begin) continue;
-        reading->intervals = with_room(reading->intervals, reading->interval_count, sizeof *reading->intervals);
-        reading->intervals[reading->interval_count] = (struct interval){ time, UINT64_MAX, 0, fact->thread };
+        reading->intervals = with_room(reading->intervals, reading->interval_count,
+                                       sizeof *reading->intervals);
+        reading->intervals[reading->interval_count] = (struct interval){ time, UINT64_MAX, 0,
+                                                                         fact->thread };
         open[fact->thread] = reading->interval_count++;
     }
     if (reading->interval_count)
@@ -157,7 +163,8 @@ static void find_intervals(struct reading *reading) {
 }
 
 /* Returns whether a thread waits by the log at some time between two, which count. */
-static bool is_logged(const struct reading *reading, uint32_t thread, uint64_t begin, uint64_t end) {
+static bool is_logged(const struct reading *reading, uint32_t thread, uint64_t begin,
+                      uint64_t end) {
     uint32_t least = 0, most = reading->interval_count;
     while (least < most) {
         uint32_t middle = least + (most - least) / 2;
@@ -174,8 +181,8 @@ static bool is_logged(const struct reading *reading, uint32_t thread, uint64_t b
 /* ---- waits for futexes ---- */
 
 /* Keeps a wait, unless it is in the log, or something was lost meanwhile. */
-static void keep_wait(struct reading *reading, const struct futex_call *call, uint32_t end, uint16_t flags,
-                      bool is_woken) {
+static void keep_wait(struct reading *reading, const struct futex_call *call, uint32_t end,
+                      uint16_t flags, bool is_woken) {
     const struct kernel_event *list = reading->events.list, *begin = &list[call->begin];
     uint64_t until = end == NONE ? reading->events.ended : list[end].time;
     uint32_t thread = table_get(&reading->tasks, begin->task, 0);
@@ -186,8 +193,9 @@ static void keep_wait(struct reading *reading, const struct futex_call *call, ui
     reading->waits = with_room(reading->waits, reading->wait_count, sizeof *reading->waits);
     reading->begins[call->begin] = reading->wait_count;
     if (end != NONE) reading->ends[end] = reading->wait_count;
-    reading->waits[reading->wait_count++] =
-        (struct futex_wait){ call->begin, end, NONE, is_woken ? call->waker : NONE, flags };
+    reading->waits[reading->wait_count++] = (struct futex_wait){ call->begin, end, NONE,
+                                                                 is_woken ? call->waker : NONE,
+                                                                 flags };
 }
 
 /* Ends or goes on with the call of a task. Returns whether it has ended. */
@@ -200,16 +208,21 @@ static bool go_on(struct reading *reading, struct futex_call *call, uint32_t at)
     if (is_asleep && call->slept == NONE) call->slept = at;
     if (event->what == CALL || event->what == WAIT_CALL) keep_wait(reading, call, at, 0, false);
     if (event->what == RETURN && event->result != -EAGAIN)
-        keep_wait(reading, call, at, event->result >= 0 ? 0
-                  : event->result == -ETIMEDOUT ? IS_TIMED_OUT : HAS_FAILED, event->result >= 0);
+        keep_wait(reading, call, at,
+                  event->result >= 0            ? 0
+                  : event->result == -ETIMEDOUT ? IS_TIMED_OUT
+                                                : HAS_FAILED,
+                  event->result >= 0);
     if (is_dead) keep_wait(reading, call, at, HAS_FAILED, false);
     return is_dead || event->what == CALL || event->what == WAIT_CALL || event->what == RETURN;
 }
 
 /* Notes who wakes a task that sleeps in its call. */
-static void wake(const struct table *calling, struct futex_call *calls, const struct kernel_event *event) {
+static void wake(const struct table *calling, struct futex_call *calls,
+                 const struct kernel_event *event) {
     uint32_t woken = table_get(calling, event->other, 0);
-    if (woken != NONE && calls[woken].begin != NONE && calls[woken].slept != NONE && event->task != event->other)
+    if (woken != NONE && calls[woken].begin != NONE && calls[woken].slept != NONE &&
+        event->task != event->other)
         calls[woken].waker = event->task;
 }
 
@@ -227,7 +240,7 @@ static void find_futex_waits(struct reading *reading) {
         uint32_t *number = table_at(&calling, event->task, 0);
         if (*number == NONE) {
             calls = with_room(calls, count, sizeof *calls);
-            calls[*number = count++] = (struct futex_call){ NONE, NONE, NONE };
+            calls[ *number = count++] = (struct futex_call){ NONE, NONE, NONE };
         }
         struct futex_call *call = &calls[*number];
         if (call->begin != NONE && go_on(reading, call, i)) call->begin = NONE;
@@ -264,7 +277,9 @@ static void find_leaves(struct reading *reading) {
         const struct kernel_event *event = &reading->events.list[i];
         reading->leaves[i] = false;
         if (event->what != SWITCH || event->cpu >= MOST_CPUS) continue;
-        const struct kernel_event *behind = next[event->cpu] == NONE ? NULL : &reading->events.list[next[event->cpu]];
+        const struct kernel_event *behind = next[event->cpu] == NONE
+                                                ? NULL
+                                                : &reading->events.list[next[event->cpu]];
         next[event->cpu] = i;
         if (!behind || behind->task != event->other) continue;
         uint32_t before = losses_until(reading, event->time, false);
@@ -273,15 +288,17 @@ static void find_leaves(struct reading *reading) {
     }
 }
 
-static struct kernel_fact *put(struct reading *reading, const struct kernel_event *event, uint32_t task,
-                               enum kernel_what what) {
+static struct kernel_fact *put(struct reading *reading, const struct kernel_event *event,
+                               uint32_t task, enum kernel_what what) {
     static struct kernel_fact unused;
     struct kernel *kernel = reading->kernel;
     uint32_t thread = table_get(&reading->tasks, task, 0);
     if (task == 0 || thread == NONE) return &unused;
     kernel->facts = with_room(kernel->facts, kernel->count, sizeof *kernel->facts);
     struct kernel_fact *fact = &kernel->facts[kernel->count++];
-    *fact = (struct kernel_fact){ .time = event->time, .thread = thread, .by = NONE, .what = (uint8_t)what };
+    *fact = (struct kernel_fact){
+        .time = event->time, .thread = thread, .by = NONE, .what = (uint8_t)what
+    };
     return fact;
 }
 
@@ -289,8 +306,9 @@ static void put_loss(struct reading *reading, const struct stretch *loss) {
     struct kernel *kernel = reading->kernel;
     if (loss->count == 0) return;
     kernel->facts = with_room(kernel->facts, kernel->count, sizeof *kernel->facts);
-    kernel->facts[kernel->count++] =
-        (struct kernel_fact){ .time = loss->begin, .count = loss->count, .thread = NONE, .what = LOST };
+    kernel->facts[kernel->count++] = (struct kernel_fact){
+        .time = loss->begin, .count = loss->count, .thread = NONE, .what = LOST
+    };
 }
 
 static void put_switch(struct reading *reading, const struct kernel_event *event, bool leaves) {
@@ -305,16 +323,20 @@ static void put_event(struct reading *reading, uint32_t at) {
     const struct kernel_event *event = &reading->events.list[at];
     if (reading->ends[at] != NONE) {
         const struct futex_wait *wait = &reading->waits[reading->ends[at]];
-        struct kernel_fact *fact = put(reading, event, reading->events.list[wait->begin].task, FUTEX_ENDS);
+        struct kernel_fact *fact = put(reading, event, reading->events.list[wait->begin].task,
+                                       FUTEX_ENDS);
         fact->value = wait->object;
         fact->flags = wait->flags;
-        fact->by = wait->waker && wait->waker != NONE ? table_get(&reading->tasks, wait->waker, 0) : NONE;
+        fact->by = wait->waker && wait->waker != NONE ? table_get(&reading->tasks, wait->waker, 0)
+                                                      : NONE;
     }
     if (event->what == SWITCH) put_switch(reading, event, reading->leaves[at]);
-    if (event->what == SETPRIO) put(reading, event, event->other, RUNS)->value = event->other_level;
+    if (event->what == SETPRIO)
+        put(reading, event, event->other, RUNS)->value = event->other_level;
     if (event->what == WOKEN) put(reading, event, event->other, WAKE);
     if (reading->begins[at] != NONE)
-        put(reading, event, event->task, FUTEX)->value = reading->waits[reading->begins[at]].object;
+        put(reading, event, event->task, FUTEX)->value =
+            reading->waits[reading->begins[at]].object;
 }
 
 /* Lists what the kernel did. What it did while something was lost isn't certain, and left out. */

@@ -25,8 +25,8 @@ struct kernel {
     bool is_there;
 };
 
-/* Reads the kernel's events, and adds the threads that only they show to the log, and the futexes to
- * the objects. Refuses what is none, or is damaged. The waits of the log are found by then. */
+/* Reads the kernel's events, and adds the threads that only they show to the log, and the futexes
+ * to the objects. Refuses what is none, or is damaged. The waits of the log are found by then. */
 void kernel_read(struct kernel *kernel, struct told *told, const char *path, const char *bytes,
                  size_t length);
 

@@ -58,7 +58,7 @@ struct log {
     struct name *names;
     struct module *modules;
     uint32_t thread_count, mutex_count, name_count, module_count;
-    bool has_waits; /* for what isn't a mutex */
+    bool has_waits;         /* for what isn't a mutex */
     struct table by_number; /* the threads */
     struct table parents;   /* by process the one that forked it */
     uint64_t ended;         /* the latest time of a record */
@@ -75,8 +75,8 @@ static inline const struct record *record_at(const struct log *log, uint32_t rec
     return (const struct record *)slot_at(log, log->slots[record]);
 }
 
-/* The records of a thread are near each other, and those of several in turn aren't: they are fetched
- * before they are looked at. */
+/* The records of a thread are near each other, and those of several in turn aren't: they are
+ * fetched before they are looked at. */
 enum { AHEAD = 24 };
 
 static inline void log_fetch(const struct log *log, uint32_t record) {
@@ -112,8 +112,11 @@ static inline uint32_t place_of(const struct log *log, const struct record *reco
 /* Returns the detail of a record's mutex, or 0 where it isn't known. */
 static inline uint16_t detail_of(const struct record *record) {
     switch (record->event) {
-    case EVENT_INIT: case EVENT_CEILING: case EVENT_REQUEST: case EVENT_GRANTED: case EVENT_RELEASE:
-        return record->detail & DETAIL_KNOWN ? record->detail : 0;
+    case EVENT_INIT:
+    case EVENT_CEILING:
+    case EVENT_REQUEST:
+    case EVENT_GRANTED:
+    case EVENT_RELEASE: return record->detail & DETAIL_KNOWN ? record->detail : 0;
     default: return 0;
     }
 }

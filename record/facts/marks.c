@@ -7,8 +7,8 @@
 /* The next facts behind one, or NONE. */
 struct behind {
     struct told *told;
-    uint32_t *lock;  /* by thread: of a mutex */
-    uint32_t *grant; /* by mutex: its GRANTED */
+    uint32_t *lock;     /* by thread: of a mutex */
+    uint32_t *grant;    /* by mutex: its GRANTED */
     struct table waits; /* by thread and mutex: its WAITS */
     struct table names; /* by thread and mutex: a WAITS whose REQUEST names the thread */
 };
@@ -42,14 +42,16 @@ static void mark_wait(struct behind *behind, uint32_t at) {
 static void mark_release(struct behind *behind, uint32_t at) {
     struct fact *release = &behind->told->facts[at];
     uint32_t wait = table_get(&behind->names, release->thread, release->mutex);
-    if (wait == NONE || wait > behind->lock[release->thread] || wait > behind->grant[release->mutex])
+    if (wait == NONE || wait > behind->lock[release->thread] ||
+        wait > behind->grant[release->mutex])
         return;
     if (!(behind->told->facts[wait].flags & IS_LATE)) release->flags |= IS_EARLY;
 }
 
 void mark_order(struct told *told) {
     const struct log *log = told->log;
-    struct behind behind = { .told = told, .lock = nones(log->thread_count),
+    struct behind behind = { .told = told,
+                             .lock = nones(log->thread_count),
                              .grant = nones(log->mutex_count) };
     for (uint32_t at = told->fact_count; at-- > 0;) {
         const struct fact *fact = &told->facts[at];

@@ -6,9 +6,10 @@
 #include <string.h>
 
 enum {
-    MODULE_BYTES = 1 << 24, /* an address further than this behind the begin of a file isn't in it */
-    MOST_PARENTS = 16,      /* processes in which a file is looked for that a process was forked with */
-    INIT_BYTES = 48,        /* of the place in a mutex's name */
+    MODULE_BYTES =
+        1 << 24,       /* an address further than this behind the begin of a file isn't in it */
+    MOST_PARENTS = 16, /* processes in which a file is looked for that a process was forked with */
+    INIT_BYTES = 48,   /* of the place in a mutex's name */
     ANY_PROCESS = 0,
 };
 
@@ -32,12 +33,14 @@ static struct name hexadecimal(uint64_t address) {
 
 /* ---- LOG.places ---- */
 
-/* Returns a text such as `map.c:12 (main)` as one word. What would be no place has a _ before it. */
+/* Returns a text such as `map.c:12 (main)` as one word. What would be no place has a _ before it.
+ */
 static struct name word_of(const char *text, size_t length) {
     static const char *const others[] = { "by", "failed", "of", "timed-out" };
     struct name word = { 0 };
     for (size_t i = 0; i < 4; i++)
-        if (length == strlen(others[i]) && memcmp(text, others[i], length) == 0) add(&word, "_", 1);
+        if (length == strlen(others[i]) && memcmp(text, others[i], length) == 0)
+            add(&word, "_", 1);
     for (size_t i = 0; i < length; i++) {
         bool is_bracket = text[i] == ' ' && i + 1 < length && text[i + 1] == '(';
         if (!is_bracket) add(&word, text + i, 1);
@@ -45,7 +48,8 @@ static struct name word_of(const char *text, size_t length) {
     return word;
 }
 
-/* Returns the number of a line's place, or 0 where it begins with `-`, or -1 if no such line does. */
+/* Returns the number of a line's place, or 0 where it begins with `-`, or -1 if no such line does.
+ */
 static int place_number(const char **at, const char *end) {
     int number = 0;
     const char *digit = *at;
@@ -128,7 +132,8 @@ static void sort_modules(struct names *names) {
 /* Returns the last module of a process that begins at an address or before, or NULL. */
 static const struct module *nearest(const struct module *modules, uint32_t count, uint32_t process,
                                     uint64_t address) {
-    uint32_t least = 0, most = count; /* those before `least` are before it, those from `most` on behind */
+    uint32_t least = 0,
+             most = count; /* those before `least` are before it, those from `most` on behind */
     while (least < most) {
         uint32_t middle = least + (most - least) / 2;
         const struct module *one = &modules[middle];
@@ -150,7 +155,8 @@ static const struct module *nearer(const struct module *one, const struct module
 }
 
 /* Returns the module at an address of a process, or of those that forked it, or NULL. */
-static const struct module *module_at(const struct names *names, uint32_t process, uint64_t address) {
+static const struct module *module_at(const struct names *names, uint32_t process,
+                                      uint64_t address) {
     const struct log *log = names->log;
     const struct module *found = NULL;
     for (int i = 0; i <= MOST_PARENTS && process != NONE; i++) {
@@ -161,7 +167,8 @@ static const struct module *module_at(const struct names *names, uint32_t proces
 }
 
 /* Returns a file and the offset in it, of which the end is kept, or the address. */
-static struct name in_module(const struct names *names, const struct module *module, uint64_t address) {
+static struct name in_module(const struct names *names, const struct module *module,
+                             uint64_t address) {
     struct name name = { 0 };
     if (!module) return hexadecimal(address);
     const struct name *file = &names->log->names[module->name];
@@ -189,7 +196,8 @@ const struct name *name_of_place(struct names *names, uint32_t record) {
     if (place == 0) return &nothing;
     if (names->numbered[place].length) return &names->numbered[place];
     uint32_t process = chunk_at(names->log, record)->process;
-    if (names->words[place].length && names->processes[place] == process) return &names->words[place];
+    if (names->words[place].length && names->processes[place] == process)
+        return &names->words[place];
     uint64_t address = names->log->header.places[place - 1] - 1;
     names->processes[place] = process;
     names->words[place] = in_module(names, module_at(names, process, address), address);
@@ -206,8 +214,8 @@ struct name name_of_address(struct names *names, uint32_t process, uint64_t addr
 static struct name where(struct names *names, const struct mutex *mutex) {
     if (!mutex->is_shared || table_get(&names->by_address, mutex->address, 0) != NONE)
         return name_of_address(names, mutex->process, mutex->address);
-    const struct module *module =
-        nearest(names->shared, names->log->module_count, ANY_PROCESS, mutex->address);
+    const struct module *module = nearest(names->shared, names->log->module_count, ANY_PROCESS,
+                                          mutex->address);
     return in_module(names, module, mutex->address);
 }
 

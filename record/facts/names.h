@@ -1,4 +1,5 @@
-/* How places in the code, mutexes and objects are named: by LOG.places, or the files that are loaded. */
+/* How places in the code, mutexes and objects are named: by LOG.places, or the files that are
+ * loaded. */
 #ifndef PIM_FACTS_NAMES_H
 #define PIM_FACTS_NAMES_H
 
@@ -6,10 +7,10 @@
 
 struct names {
     struct log *log;
-    struct module *modules;           /* of the log, by process and begin, the first of equal ones last */
-    struct module *shared;            /* the same, as if all were of one process */
+    struct module *modules; /* of the log, by process and begin, the first of equal ones last */
+    struct module *shared;  /* the same, as if all were of one process */
     struct name numbered[PLACE_SLOTS + 1]; /* by place its text; empty where there is none */
-    struct name *texts;               /* of addresses */
+    struct name *texts;                    /* of addresses */
     uint32_t text_count;
     struct table by_address;
     struct name words[PLACE_SLOTS + 1]; /* by place what it was called last, in this process: */
@@ -25,7 +26,8 @@ const struct name *name_of_place(struct names *names, uint32_t record);
 /* Returns what is at an address of a process: a variable, a file and an offset, or the address. */
 struct name name_of_address(struct names *names, uint32_t process, uint64_t address);
 
-/* Returns the name of a mutex: where it is, and behind @ where it was initialised, if that is known. */
+/* Returns the name of a mutex: where it is, and behind @ where it was initialised, if that is
+ * known. */
 struct name name_of_mutex(struct names *names, const struct mutex *mutex);
 
 /* Returns the name of a thread: what the log says, or `-`. */

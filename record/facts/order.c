@@ -18,8 +18,8 @@ struct order {
     struct kernel *kernel;
     struct names *names;
     struct text *text;
-    struct running *running;   /* by thread */
-    uint32_t *on;              /* by CPU the thread that is on it, or was before the last loss */
+    struct running *running; /* by thread */
+    uint32_t *on;            /* by CPU the thread that is on it, or was before the last loss */
     uint32_t losses;
     uint32_t *owner;           /* by mutex, or NONE */
     uint32_t *early;           /* by mutex: its RELEASED that is still to come, or NONE */
@@ -31,7 +31,7 @@ struct order {
     struct table owned_before; /* by thread and mutex */
     uint32_t *declared;        /* the threads, in the order of the log's numbers */
     uint32_t declared_count;
-    uint32_t unknown_number;   /* of the owner that isn't known */
+    uint32_t unknown_number; /* of the owner that isn't known */
     bool is_unknown_declared;
     uint64_t now;
 };
@@ -276,7 +276,8 @@ static void wait_for_futex(struct order *order, uint32_t thread, uint32_t object
 }
 
 /* A wait for an object ends. */
-static void unblock(struct order *order, uint32_t thread, uint32_t object, uint32_t by, uint16_t flags) {
+static void unblock(struct order *order, uint32_t thread, uint32_t object, uint32_t by,
+                    uint16_t flags) {
     if (order->blocked[thread] != object) return;
     begin_line(order, order->now, thread, " resumes", object);
     if (by != NONE && number_of(order, by)) {
@@ -298,7 +299,8 @@ static void put_kernel_fact(struct order *order, const struct kernel_fact *fact)
     case READY: put_off(order, fact->thread, " off ready"); break;
     case ASLEEP: put_off(order, fact->thread, " off asleep"); break;
     case WAKE:
-        if (running_of(order, fact->thread)->cpu == NONE) put_off(order, fact->thread, " off ready");
+        if (running_of(order, fact->thread)->cpu == NONE)
+            put_off(order, fact->thread, " off ready");
         break;
     case LOST: put_loss(order, fact->count); break;
     case FUTEX: wait_for_futex(order, fact->thread, fact->value); break;
@@ -365,10 +367,12 @@ static uint32_t free_number(const struct table *tasks, uint32_t number, int step
     return number;
 }
 
-/* Numbers the threads that aren't in the log by their tasks. Those that have no room aren't declared. */
+/* Numbers the threads that aren't in the log by their tasks. Those that have no room aren't
+ * declared. */
 static void number_others(struct order *order, struct table *tasks) {
     struct log *log = order->told->log;
-    for (uint32_t i = order->kernel->first_other; order->kernel->is_there && i < log->thread_count; i++) {
+    for (uint32_t i = order->kernel->first_other; order->kernel->is_there && i < log->thread_count;
+         i++) {
         struct thread *thread = &log->threads[i];
         bool has_room = order->declared_count + 1 < MOST_THREADS && thread->task <= LAST_THREAD;
         uint32_t *taken = table_at(tasks, thread->task, 0);
@@ -430,15 +434,16 @@ static void declare_mutexes(struct order *order) {
         text_number(order->text, (uint64_t)i + 1);
         if (is_recursive(mutex)) text_word(order->text, " recursive");
         text_word(order->text, is_protect(mutex) ? " protect" : is_inherit ? " inherit" : " none");
-        if (is_protect(mutex)) text_number(order->text, ceiling < LEVEL_MOST ? ceiling : LEVEL_MOST);
+        if (is_protect(mutex))
+            text_number(order->text, ceiling < LEVEL_MOST ? ceiling : LEVEL_MOST);
         text_name(order->text, &name);
         text_end(order->text);
     }
 }
 
 static void declare_objects(struct order *order) {
-    static const char *const kinds[] = { "", " semaphore", " rwlock", " rwlock", " barrier", " thread",
-                                         " condition", " futex" };
+    static const char *const kinds[] = { "",         " semaphore", " rwlock",    " rwlock",
+                                         " barrier", " thread",    " condition", " futex" };
     for (uint32_t i = 0; i < order->told->object_count; i++) {
         const struct object *object = &order->told->objects[i];
         struct name name = name_of_address(order->names, object->process, object->address);
@@ -492,8 +497,11 @@ static void make(struct order *order) {
         order->running[thread] = (struct running){ NONE, NONE, 0 };
 }
 
-void write_facts(struct told *told, struct kernel *kernel, struct names *names, struct text *text) {
-    struct order order = { .told = told, .log = told->log, .kernel = kernel, .names = names, .text = text };
+void write_facts(struct told *told, struct kernel *kernel, struct names *names,
+                 struct text *text) {
+    struct order order = {
+        .told = told, .log = told->log, .kernel = kernel, .names = names, .text = text
+    };
     make(&order);
     number_threads(&order);
     text_begin(text);

@@ -91,13 +91,16 @@ static void end(struct finding *finding, uint32_t at) {
     if (number == NONE) return;
     struct wait *wait = &told->waits[number];
     uint32_t kind = kind_of(record_at(told->log, wait->begin));
-    if (record->event == EVENT_RELEASE_FAILED && kind == KIND_CONDITION) finding->open[thread] = NONE;
+    if (record->event == EVENT_RELEASE_FAILED && kind == KIND_CONDITION)
+        finding->open[thread] = NONE;
     if (!ends(record, kind == KIND_CONDITION)) return;
     finding->open[thread] = NONE;
-    bool is_given = (record->event == EVENT_WAITED && record->how == 0) || record->event == EVENT_GRANTED;
+    bool is_given = (record->event == EVENT_WAITED && record->how == 0) ||
+                    record->event == EVENT_GRANTED;
     bool is_late = record->event == EVENT_WAITED && record->how == ETIMEDOUT;
     if (is_given) wait->by = giver(finding, wait);
-    if (is_given && wait->by == NONE && kind == KIND_BARRIER) return; /* it was the last one there */
+    if (is_given && wait->by == NONE && kind == KIND_BARRIER)
+        return; /* it was the last one there */
     wait->flags = is_given ? 0 : is_late ? IS_TIMED_OUT : HAS_FAILED;
     keep(told, number);
     put_mark(told, at, number, false);
@@ -132,7 +135,7 @@ static void number_objects(struct told *told) {
         uint32_t *number = table_at(&known, process << 3 | object.kind, object.address);
         if (*number == NONE) {
             told->objects = with_room(told->objects, told->object_count, sizeof *told->objects);
-            told->objects[*number = told->object_count++] = object;
+            told->objects[ *number = told->object_count++] = object;
         }
         wait->object = *number;
     }

@@ -8,12 +8,12 @@
 /* Who owns each mutex, and since when others did. */
 struct owners {
     uint32_t *owner, *depth;
-    uint32_t *grants;      /* how many GRANTEDs each had */
-    uint32_t *ownerships;  /* how many ownerships */
-    uint32_t *granted;     /* of each ownership its GRANTED */
-    uint64_t *released;    /* and the latest time of a release up to it */
-    uint32_t *asked;       /* by thread the mutex that it asked for last, until that is answered */
-    uint32_t *last;        /* by thread its last record */
+    uint32_t *grants;     /* how many GRANTEDs each had */
+    uint32_t *ownerships; /* how many ownerships */
+    uint32_t *granted;    /* of each ownership its GRANTED */
+    uint64_t *released;   /* and the latest time of a release up to it */
+    uint32_t *asked;      /* by thread the mutex that it asked for last, until that is answered */
+    uint32_t *last;       /* by thread its last record */
 };
 
 /* Returns how many of the first numbers, which ascend, are below one. */
@@ -76,7 +76,8 @@ static void lose(const struct told *told, struct owners *owners, uint32_t mutex,
 
 static void grant(const struct told *told, struct owners *owners, uint32_t at) {
     const struct log *log = told->log;
-    uint32_t mutex = log->mutex_of[at], thread = thread_at(log, at), begin = told->grants.begin[mutex];
+    uint32_t mutex = log->mutex_of[at], thread = thread_at(log, at),
+             begin = told->grants.begin[mutex];
     uint64_t time = record_at(log, at)->time;
     uint32_t last = begin + owners->grants[mutex]++;
     uint64_t before = last > begin ? told->grants.latest[last - 1] : 0;
@@ -129,11 +130,14 @@ static void make_lists(struct told *told, struct owners *owners) {
     told->grants.begin[mutexes] = count;
     told->grants.records = resized(NULL, count * sizeof(uint32_t));
     told->grants.latest = resized(NULL, count * sizeof(uint64_t));
-    *owners = (struct owners){
-        .owner = nones(mutexes), .depth = nones(mutexes), .grants = nones(mutexes),
-        .ownerships = nones(mutexes), .granted = nones(count),
-        .released = resized(NULL, count * sizeof(uint64_t)),
-        .asked = nones(log->thread_count), .last = nones(log->thread_count) };
+    *owners = (struct owners){ .owner = nones(mutexes),
+                               .depth = nones(mutexes),
+                               .grants = nones(mutexes),
+                               .ownerships = nones(mutexes),
+                               .granted = nones(count),
+                               .released = resized(NULL, count * sizeof(uint64_t)),
+                               .asked = nones(log->thread_count),
+                               .last = nones(log->thread_count) };
     for (uint32_t mutex = 0; mutex < mutexes; mutex++)
         owners->grants[mutex] = owners->ownerships[mutex] = 0;
 }

@@ -11,7 +11,7 @@ struct world {
     uint32_t *ceiling;
     uint32_t *awaits, *own; /* by thread a mutex of another, one of its own; or NONE */
     uint32_t *level;
-    uint32_t *last; /* by thread its last record, or NONE */
+    uint32_t *last;             /* by thread its last record, or NONE */
     struct table selves, tasks; /* threads by process and pthread_t, by task */
     uint32_t at;                /* the record */
 };
@@ -267,11 +267,17 @@ static uint32_t tell_waits(struct world *world, uint32_t mark, bool is_begin) {
 void list_facts(struct told *told) {
     const struct log *log = told->log;
     uint32_t mutexes = log->mutex_count, threads = log->thread_count, missing = 0, mark = 0;
-    struct world world = {
-        .told = told, .log = log, .owner = nones(mutexes), .depth = nones(mutexes),
-        .last_owner = nones(mutexes), .grants = nones(mutexes), .ceiling = nones(mutexes),
-        .awaits = nones(threads), .own = nones(threads), .level = nones(threads),
-        .last = nones(threads) };
+    struct world world = { .told = told,
+                           .log = log,
+                           .owner = nones(mutexes),
+                           .depth = nones(mutexes),
+                           .last_owner = nones(mutexes),
+                           .grants = nones(mutexes),
+                           .ceiling = nones(mutexes),
+                           .awaits = nones(threads),
+                           .own = nones(threads),
+                           .level = nones(threads),
+                           .last = nones(threads) };
     for (uint32_t mutex = 0; mutex < mutexes; mutex++) {
         uint32_t ceiling = log->mutexes[mutex].detail >> 8;
         world.grants[mutex] = 0;

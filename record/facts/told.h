@@ -7,15 +7,15 @@
 enum what { WAITS, GAVE_UP, RELEASED, GRANTED, PRIORITY, CEILING, BLOCKS, RESUMES };
 
 enum {
-    IS_NAMED = 1,   /* WAITS: the REQUEST names a task as the owner */
-    IS_OWN = 2,     /* WAITS, GAVE_UP: for a mutex of the thread's own */
-    IS_LATE = 4,    /* WAITS: the owner's grant is told late */
-    ASKS = 8,       /* WAITS: the owner asks for the mutex before its next grant */
-    IS_EARLY = 16,  /* RELEASED: a later request shows that the thread owns the mutex still */
-    IS_DONE = 32,   /* GRANTED: it was told before */
+    IS_NAMED = 1,  /* WAITS: the REQUEST names a task as the owner */
+    IS_OWN = 2,    /* WAITS, GAVE_UP: for a mutex of the thread's own */
+    IS_LATE = 4,   /* WAITS: the owner's grant is told late */
+    ASKS = 8,      /* WAITS: the owner asks for the mutex before its next grant */
+    IS_EARLY = 16, /* RELEASED: a later request shows that the thread owns the mutex still */
+    IS_DONE = 32,  /* GRANTED: it was told before */
     IS_TIMED_OUT = 64,
     HAS_FAILED = 128,
-    IS_FREE = 256,  /* WAITS: by the records before, nobody owns the mutex */
+    IS_FREE = 256, /* WAITS: by the records before, nobody owns the mutex */
 };
 
 /* What happened at the time of a record. */
@@ -23,8 +23,10 @@ struct fact {
     uint32_t record;        /* that says it, or behind which it was added */
     uint32_t said;          /* whose place it has, or NONE */
     uint32_t thread, mutex; /* of BLOCKS and RESUMES an object */
-    uint32_t other; /* WAITS: the owner, or NONE; PRIORITY, CEILING: the level; RESUMES: who ended it */
-    uint32_t link;  /* GRANTED: its thread's record before, or NONE; WAITS that IS_LATE: the grant */
+    uint32_t
+        other; /* WAITS: the owner, or NONE; PRIORITY, CEILING: the level; RESUMES: who ended it */
+    uint32_t
+        link; /* GRANTED: its thread's record before, or NONE; WAITS that IS_LATE: the grant */
     uint16_t what, flags;
 };
 
