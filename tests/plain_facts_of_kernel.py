@@ -43,7 +43,7 @@ class Kernel:
     has waits."""
 
     def __init__(self, data, began, logged):
-        text = data.decode()
+        text = data.decode("latin-1")
         text = text[:text.rindex("\n") + 1]
         self.began = kernel_text.KernelText(data).head.began if began is None else began
         kept = [line for number, line in enumerate(text.splitlines()) if number < plain_futex_waits.HEAD or line.startswith("end")
@@ -80,7 +80,7 @@ class Kernel:
         behind = next((other for other in self.events[at + 1:] if (other.what, other.cpu) == ("switch", event.cpu)), None)
         if behind is None or behind.task != event.values[2] or event.cpu > MOST_CPU:
             return False
-        return not any(begin < behind.time and end > event.time for begin, end, _ in self.losses)
+        return not any(begin < behind.time and (event.time <= begin or event.time < end) for begin, end, _ in self.losses)
 
     def facts(self):
         left = list(self.losses)

@@ -98,6 +98,37 @@ BY_HAND = {
         @1 1 THREAD 0x10 fifo 10
         @10 1 GRANTED 0x500 none trylock
         """, "10 701 took 1"),
+    "an owner that was named asks for the mutex itself": ("""
+        @1 1 THREAD 0x10 fifo 10
+        @2 2 THREAD 0x20 fifo 80
+        @3 3 THREAD 0x30 fifo 20
+        @110 2 REQUEST 0x500 none owner 701
+        @120 1 REQUEST 0x500 none owner 702
+        @200 3 GRANTED 0x500 none
+        """, "110 702 waits 1, 120 701 waits 1, 200 703 granted 1"),
+    "a wait for an own mutex that another thread got meanwhile": ("""
+        @1 1 THREAD 0x10 fifo 10
+        @2 2 THREAD 0x20 fifo 80
+        @10 1 GRANTED 0x500 none robust
+        @20 1 REQUEST 0x500 none robust owner 701
+        @30 2 GRANTED 0x500 none robust died
+        @40 1 REQUEST 0x500 none robust owner 702
+        @50 2 RELEASE 0x500 none robust
+        @60 1 GRANTED 0x500 none robust took 20
+        """, "10 701 granted 1, 20 701 waits 1, 30 701 gave-up 1, 30 701 released 1, 30 701 waits 1, 30 702 granted 1, "
+             "40 701 gave-up 1, 40 701 waits 1, 50 702 released 1, 60 701 granted 1"),
+    "a trylock whose owner had died": ("""
+        @1 1 THREAD 0x10 fifo 10
+        @10 1 GRANTED 0x500 none robust trylock died
+        """, "10 701 took 1"),
+    "a trylock of a thread that waits": ("""
+        @1 1 THREAD 0x10 fifo 10
+        @2 2 THREAD 0x20 fifo 80
+        @10 1 GRANTED 0x500 none
+        @20 2 REQUEST 0x500 none owner 701
+        @30 1 RELEASE 0x500 none
+        @40 2 GRANTED 0x500 none trylock
+        """, "10 701 granted 1, 20 702 waits 1, 30 701 released 1, 40 702 granted 1"),
     "a wait for an own mutex": ("""
         @1 1 THREAD 0x10 fifo 10
         @10 1 GRANTED 0x500 none
@@ -256,7 +287,8 @@ def command(converter):
               difference((done.returncode, done.stdout, output.read_bytes() == text), (0, b"", True)))
         output.unlink()
     refused = {"no log": [], "two logs": [log, log], "an unknown option": ["-x", log], "no such file": [f"{log}.none"],
-               "a folder": [log.parent], "a file of a folder that isn't there": ["-o", f"{log}.none/facts", log]}
+               "a folder": [log.parent], "a file of a folder that isn't there": ["-o", f"{log}.none/facts", log],
+               "to write over the log": ["-o", log, log]}
     for what, words in refused.items():
         done = run(*words)
         is_one = done.stderr.count(b"\n") in (1, 2) and b"pim-facts" in done.stderr

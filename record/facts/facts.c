@@ -50,6 +50,19 @@ static const char *beside(const char *path, const char *ending) {
     return strcat(strcpy(name, path), ending);
 }
 
+/* Opens the file for the text, which isn't the log itself. */
+static int opened(const char *output, const char *path) {
+    struct stat status, other;
+    int file = open(output, O_WRONLY | O_CREAT | O_CLOEXEC, 0666);
+    if (file < 0 || fstat(file, &status) != 0) refuse(output, "%s", strerror(errno));
+    bool is_there = stat(path, &other) == 0;
+    if (is_there && status.st_dev == other.st_dev && status.st_ino == other.st_ino)
+        refuse(output, "it is the log");
+    if (S_ISREG(status.st_mode) && ftruncate(file, 0) != 0)
+        refuse(output, "%s", strerror(errno));
+    return file;
+}
+
 static void convert(const char *path, const char *output) {
     static struct log log;
     static struct names names;
@@ -69,8 +82,7 @@ static void convert(const char *path, const char *output) {
     mark_order(&told);
     if (events) kernel_read(&kernel, &told, kernel_path, events, kernel_length);
     text.path = output;
-    if (output) text.file = open(output, O_WRONLY | O_CREAT | O_TRUNC | O_CLOEXEC, 0666);
-    if (text.file < 0) refuse(output, "%s", strerror(errno));
+    if (output) text.file = opened(output, path);
     write_facts(&told, &kernel, &names, &text);
     if (output && close(text.file) != 0) refuse(output, "%s", strerror(errno));
 }

@@ -11,6 +11,7 @@ enum {
     LEVEL_OTHER = 0, /* of the policies below SCHED_FIFO */
     LEVEL_MOST = 100,
     NAME_BYTES = 64,
+    MOST_THREADS = 65536, /* of a text of facts, of which one is the owner that isn't known */
 };
 
 /* The name of a thread, or the end of the name of a file. */

@@ -190,18 +190,27 @@ void names_read(struct names *names, struct log *log, const char *places, size_t
     sort_modules(names);
 }
 
+/* Returns 1 + the number of the word of a place in a process. */
+static uint32_t find_word(struct names *names, uint32_t place, uint32_t process) {
+    uint32_t *word = table_at(&names->by_process, place, process);
+    if (*word == NONE) {
+        uint64_t address = names->log->header.places[place - 1] - 1;
+        names->words = with_room(names->words, names->word_count, sizeof *names->words);
+        names->words[*word = names->word_count++] =
+            in_module(names, module_at(names, process, address), address);
+    }
+    names->processes[place] = process;
+    return names->last[place] = *word + 1;
+}
+
 const struct name *name_of_place(struct names *names, uint32_t record) {
     static const struct name nothing;
     uint32_t place = place_of(names->log, record_at(names->log, record));
     if (place == 0) return &nothing;
     if (names->numbered[place].length) return &names->numbered[place];
-    uint32_t process = chunk_at(names->log, record)->process;
-    if (names->words[place].length && names->processes[place] == process)
-        return &names->words[place];
-    uint64_t address = names->log->header.places[place - 1] - 1;
-    names->processes[place] = process;
-    names->words[place] = in_module(names, module_at(names, process, address), address);
-    return &names->words[place];
+    uint32_t process = chunk_at(names->log, record)->process, last = names->last[place];
+    if (last == 0 || names->processes[place] != process) last = find_word(names, place, process);
+    return &names->words[last - 1];
 }
 
 struct name name_of_address(struct names *names, uint32_t process, uint64_t address) {

@@ -10,17 +10,20 @@ struct names {
     struct module *modules; /* of the log, by process and begin, the first of equal ones last */
     struct module *shared;  /* the same, as if all were of one process */
     struct name numbered[PLACE_SLOTS + 1]; /* by place its text; empty where there is none */
-    struct name *texts;                    /* of addresses */
-    uint32_t text_count;
+    struct name *texts;     /* of addresses: */
     struct table by_address;
-    struct name words[PLACE_SLOTS + 1]; /* by place what it was called last, in this process: */
-    uint32_t processes[PLACE_SLOTS + 1];
+    struct name *words; /* of other places in a process: */
+    struct table by_process;
+    uint32_t last[PLACE_SLOTS + 1];      /* by place its word that was asked for last */
+    uint32_t processes[PLACE_SLOTS + 1]; /* and the process */
+    uint32_t text_count, word_count;
 };
 
 /* Reads what LOG.places says, which may be empty. */
 void names_read(struct names *names, struct log *log, const char *places, size_t length);
 
-/* Returns what a record's place is called, which is empty if it has none. */
+/* Returns what a record's place is called, which is empty if it has none. The next call may move
+ * it. */
 const struct name *name_of_place(struct names *names, uint32_t record);
 
 /* Returns what is at an address of a process: a variable, a file and an offset, or the address. */

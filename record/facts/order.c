@@ -71,9 +71,9 @@ static void put_line(struct order *order, uint32_t thread, const char *what, uin
 static void put_places(struct order *order, uint32_t record) {
     static const struct name unknown = { 1, "-" };
     const struct name *name = name_of_place(order->names, record);
+    bool may_have_callers = name->length && record_at(order->log, record)->event == EVENT_REQUEST;
     if (name->length) text_name(order->text, name);
-    bool is_request = record_at(order->log, record)->event == EVENT_REQUEST;
-    for (int count = 1; name->length && is_request && count < MOST_PLACES; count++) {
+    for (int count = 1; may_have_callers && count < MOST_PLACES; count++) {
         record = order->log->next[record];
         if (record == NONE || record_at(order->log, record)->event != EVENT_FRAME) break;
         const struct name *caller = name_of_place(order->names, record);

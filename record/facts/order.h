@@ -7,7 +7,7 @@
 #include "text.h"
 #include "told.h"
 
-enum { MOST_THREADS = 65536, MOST_PLACES = 16 };
+enum { MOST_PLACES = 16 };
 #define LAST_THREAD (UINT32_MAX - 1)
 #define LAST_TIME UINT64_C(9999999999999999999)
 
