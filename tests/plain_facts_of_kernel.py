@@ -6,7 +6,8 @@ import plain_futex_waits
 from record_logs import reader
 
 kernel_text = reader.kernel_text
-RUNS, ON, READY, ASLEEP, WAKE, LOST, FUTEX, FUTEX_ENDS = "runs", "on", "off ready", "off asleep", "wake", "lost", "blocks", "resumes"
+RUNS, ON, READY, ASLEEP, WAKE, LOST = "runs", "on", "off ready", "off asleep", "wake", "lost"
+FUTEX, FUTEX_ENDS = "blocks", "resumes"
 MOST_CPU = 65535
 # `task` is None of LOST. `value` is a level, a CPU, a number of events or the address of a futex.
 Fact = namedtuple("Fact", "time what task value by how", defaults=(None, None))
@@ -30,12 +31,13 @@ class Waits(plain_futex_waits.Text):
                       if at < end and self.lines[at].what == "switch" and self.lines[at].words[1] in ("S", "D")]
             if not asleep:
                 continue
-            wakers = [self.lines[at].task for at in range(asleep[0], end) if self.lines[at].what == "wake"
-                      and int(self.lines[at].words[0]) == line.task != self.lines[at].task]
+            wakes = [self.lines[at] for at in range(asleep[0], end) if self.lines[at].what == "wake"]
+            wakers = [wake.task for wake in wakes if int(wake.words[0]) == line.task != wake.task]
             by = wakers[-1] if outcome == "woken" and wakers else None
             is_open = end == len(self.lines)
             until = self.ended if is_open else self.lines[end].time
-            yield Wait(line.task, begin, None if is_open else end, int(line.words[0], 16), outcome, by, line.time, until)
+            yield Wait(line.task, begin, None if is_open else end, int(line.words[0], 16), outcome, by, line.time,
+                       until)
 
 
 class Kernel:
@@ -46,12 +48,14 @@ class Kernel:
         text = data.decode("latin-1")
         text = text[:text.rindex("\n") + 1]
         self.began = kernel_text.KernelText(data).head.began if began is None else began
-        kept = [line for number, line in enumerate(text.splitlines()) if number < plain_futex_waits.HEAD or line.startswith("end")
-                or line.split(" ")[3] == "name" or int(line.split(" ")[0]) >= self.began]
+        kept = [line for number, line in enumerate(text.splitlines())
+                if number < plain_futex_waits.HEAD or line.startswith("end") or line.split(" ")[3] == "name"
+                or int(line.split(" ")[0]) >= self.began]
         whole = kernel_text.KernelText("".join(f"{line}\n" for line in kept).encode())
         assert whole.faults in ([], ["the end is missing: the recorder was killed, or goes on"]), whole.faults
         self.events = [event for event in whole.events if event.what != "name"]
-        self.ended = max([whole.head.began, *(event.time for event in whole.events), *([whole.end[0]] if whole.end else [])])
+        times = [event.time for event in whole.events]
+        self.ended = max([whole.head.began, *times, *([whole.end[0]] if whole.end else [])])
         self.names = {event.values[0]: event.values[1] for event in whole.events if event.what == "name"}
         self.losses = sorted((event.values[1], event.time, event.values[0]) for event in whole.lost())
         waits = Waits("".join(f"{line}\n" for line in kept))
@@ -60,7 +64,8 @@ class Kernel:
 
     def is_kept(self, wait, logged):
         """Returns whether nothing was lost in a wait, and the log hasn't one of the same time."""
-        times = [(begin, end) for begin, end, _ in self.losses] + [(begin, end) for task, begin, end in logged if task == wait.task]
+        times = [(begin, end) for begin, end, _ in self.losses]
+        times += [(begin, end) for task, begin, end in logged if task == wait.task]
         return not any(begin <= wait.until and wait.began <= end for begin, end in times)
 
     def shown(self):
@@ -77,10 +82,12 @@ class Kernel:
     def leaves(self, at):
         """Returns whether the task that a switch puts on a CPU is seen to leave it, before anything is lost."""
         event = self.events[at]
-        behind = next((other for other in self.events[at + 1:] if (other.what, other.cpu) == ("switch", event.cpu)), None)
+        switches = (other for other in self.events[at + 1:] if (other.what, other.cpu) == ("switch", event.cpu))
+        behind = next(switches, None)
         if behind is None or behind.task != event.values[2] or event.cpu > MOST_CPU:
             return False
-        return not any(begin < behind.time and (event.time <= begin or event.time < end) for begin, end, _ in self.losses)
+        return not any(begin < behind.time and (event.time <= begin or event.time < end)
+                       for begin, end, _ in self.losses)
 
     def facts(self):
         left = list(self.losses)

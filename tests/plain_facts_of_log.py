@@ -21,8 +21,10 @@ SAID_BY = {log_facts.WAITS: reader.REQUEST, log_facts.GRANTED: reader.GRANTED, l
 KINDS = {2: "rwlock", 3: "rwlock", 6: "condition"}
 NUMBERED, UNNUMBERED = (re.compile(start + rb" 0x([0-9a-f]{1,16}) (.*)", re.DOTALL)
                         for start in (rb"([1-9][0-9]{0,3})", rb"(-)"))
-UNSEEN = (("left_out", "call", "that the recorder couldn't see whole"), ("lost", "record", "for which the log had no room"),
-          ("dropped", "early record", "that {} dropped for later ones"), ("unplaced", "record", "for whose {} the log had no room"))
+UNSEEN = (("left_out", "call", "that the recorder couldn't see whole"),
+          ("lost", "record", "for which the log had no room"),
+          ("dropped", "early record", "that {} dropped for later ones"),
+          ("unplaced", "record", "for whose {} the log had no room"))
 
 
 def visible(text):
@@ -122,8 +124,8 @@ class Names:
 
 
 def numbers_of(log, others):
-    """Returns by thread its number in the text: that in the kernel, unless an earlier thread has it. Tasks that aren't in
-    the log have theirs."""
+    """Returns by thread its number in the text: that in the kernel, unless an earlier thread has it. Other tasks have
+    theirs."""
     tasks, numbers, taken = {task for _, task in log.identity.values()}, {}, set()
     free = (number for number in range(1, LAST_THREAD) if number not in tasks)
     for thread, (_, task) in sorted(log.identity.items()):
@@ -163,8 +165,9 @@ class Blocks(plain_other_waits.Waits):
         number = 6 if record.event == reader.CONDITION else record.detail
         word = KINDS.get(number) or reader.KINDS[number]
         how = {"timed out": "timed-out", plain_other_waits.FAILED: "failed"}.get(outcome)
-        return Block(record, behind.number, end is not None and self.records[end].number, thread,
-                     (record.chunk.process, word, record.object), how, gift is not None and self.records[gift].chunk.thread)
+        by = None if gift is None else self.records[gift].chunk.thread
+        return Block(record, behind.number, None if end is None else self.records[end].number, thread,
+                     (record.chunk.process, word, record.object), how, by)
 
     def all(self):
         begins = [at for at, record in enumerate(self.records) if record.event in (reader.WAIT, reader.CONDITION)]
@@ -211,7 +214,7 @@ def facts_of(whole, log, blocks):
     facts = []
     for record in log.records:
         number = record.number
-        facts += [Fact(record, block.thread, RESUMES, block.object, owner=block.by or None, how=block.how)
+        facts += [Fact(record, block.thread, RESUMES, block.object, owner=block.by, how=block.how)
                   for block in blocks if block.end == number]
         facts += told.get(number, [])
         facts += [Fact(record, block.thread, BLOCKS, block.object, block.begin) for block in blocks
@@ -237,8 +240,9 @@ class Writer:
         others = [task for task in (self.kernel.shown() if self.kernel else ()) if task not in self.tasks]
         self.numbers = numbers_of(self.log, others)
         self.tasks.update({task: (OTHER, task) for task in others if (OTHER, task) in self.numbers})
-        futexes = sorted((wait.begin, wait.address) for wait in self.kernel.waits if wait.task in self.shown) if self.kernel else ()
-        self.objects = numbered([*(block.object for block in blocks), *(address for _, address in futexes)])
+        waits = [wait for wait in self.kernel.waits if wait.task in self.shown] if self.kernel else []
+        futexes = [wait.address for wait in sorted(waits, key=lambda wait: wait.begin)]
+        self.objects = numbered([*(block.object for block in blocks), *futexes])
         self.runs, self.on = {}, {}       # by thread its level in the kernel, its CPU
         self.lines, self.now, self.at = ["facts 1"], 0, 0
         self.owner, self.awaits, self.blocked = {}, {}, {}
@@ -277,7 +281,8 @@ class Writer:
 
     def declare(self):
         for thread in sorted(self.log.identity):
-            self.lines.append(f"thread {self.numbers[thread]} {self.level[thread]} {self.names.threads.get(thread) or '-'}")
+            name = self.names.threads.get(thread) or "-"
+            self.lines.append(f"thread {self.numbers[thread]} {self.level[thread]} {name}")
         for task, thread in self.tasks.items():
             if isinstance(thread, tuple):
                 name = visible(self.kernel.names.get(task, "").encode()[:NAME_BYTES])

@@ -94,6 +94,17 @@ BY_HAND = {
         @40 2 GRANTED 0x500 none robust died
         """, "10 701 granted 1, 20 702 granted 2, 30 701 waits 2, 40 701 gave-up 2, 40 701 released 1, "
              "40 701 waits 2, 40 702 granted 1"),
+    "requests that the log lacks are in the order in which their calls end": ("""
+        @1 1 THREAD 0x10 fifo 10
+        @2 2 THREAD 0x20 fifo 20
+        @3 3 THREAD 0x30 fifo 30
+        @10 1 GRANTED 0x500 none
+        @100 1 RELEASE 0x500 none
+        @110 3 GRANTED 0x500 none took 105
+        @150 3 RELEASE 0x500 none
+        @160 2 GRANTED 0x500 none took 155
+        """, "10 701 granted 1, 10 703 waits 1, 10 702 waits 1, 100 701 released 1, 110 703 granted 1, "
+             "150 703 released 1, 160 702 granted 1"),
     "a mutex that was locked by trylock": ("""
         @1 1 THREAD 0x10 fifo 10
         @10 1 GRANTED 0x500 none trylock
@@ -199,7 +210,8 @@ class Converter:
         status, out, said = self.run(log, places, kernel)
         wanted = plain_facts_of_log.text_of(log, places or b"", kernel)
         got = difference((status, said, *out.decode().splitlines()), (0, "", *wanted.splitlines()))
-        self.words |= {word for line in wanted.splitlines() for word in line.split()[:6] if word.isalpha() or "-" in word}
+        words = {word for line in wanted.splitlines() for word in line.split()[:6]}
+        self.words |= {word for word in words if word.isalpha() or "-" in word}
         return got or self.fault(out)
 
     def fault(self, text):
@@ -228,7 +240,8 @@ def recordings(converter):
         log = case.log and bytes(case.log)
         error = case.wanted.get("error", OTHER_REASONS[0])
         if any(reason in error for reason in OTHER_REASONS):
-            check(f"the facts of {case.name}", None if "head" in error else converter.why(log, case.places, case.kernel))
+            why = None if "head" in error else converter.why(log, case.places, case.kernel)
+            check(f"the facts of {case.name}", why)
             continue
         status, out, said = converter.run(log, case.places, case.kernel)
         said = said.removeprefix("pim-facts: LOG").removeprefix(".kernel").removeprefix(": ")
@@ -257,7 +270,8 @@ def random_events(converter):
     """Random events of the kernel, alone and of the time of a random log. Most break laws of their form."""
     differ = {}
     for seed in range(FIRST_SEED, FIRST_SEED + TEXTS):
-        kinds = {"alone": None, "of a log": RandomLog(seed).data(), "of other waits": record_other_waits.random_log(seed)}
+        kinds = {"alone": None, "of a log": RandomLog(seed).data(),
+                 "of other waits": record_other_waits.random_log(seed)}
         for kind, data in kinds.items():
             why = converter.why(data and bytes(data), None, kernel_of(seed))
             differ.update({f"{kind} {seed}: {why}": why} if why else {})
@@ -267,7 +281,8 @@ def random_events(converter):
 
 def every_word(converter):
     words = ("granted took waits gave-up released priority ceiling blocks resumes by timed-out failed none inherit protect"
-             " recursive semaphore rwlock barrier thread condition futex runs on off ready asleep lost unseen end")
+             " recursive semaphore rwlock barrier thread condition futex runs on off ready asleep lost unseen"
+             " end")
     missing = [word for word in words.split() if word not in converter.words]
     check("each word of facts is among these", f"no {missing}" if missing else None)
 
@@ -315,10 +330,10 @@ def generated(converter):
 
 def fuzz():
     name = f"{FUZZED} made inputs have no fault"
-    probe = subprocess.run(["clang", "-fsanitize=fuzzer", "-x", "c", "-", "-o", "/dev/null"], capture_output=True, text=True,
-                           input="int LLVMFuzzerTestOneInput(const char *d, unsigned long s) { return !d && s; }",
-                           check=False) if shutil.which("clang") else None
-    if probe is None or probe.returncode:
+    probe = "int LLVMFuzzerTestOneInput(const char *data, unsigned long size) { return !data && size; }"
+    words = ["clang", "-fsanitize=fuzzer", "-x", "c", "-", "-o", "/dev/null"]
+    if not shutil.which("clang") or subprocess.run(words, input=probe.encode(), stderr=subprocess.DEVNULL,
+                                                   check=False).returncode:
         return skip(name, "there is no clang with a fuzzer")
     done = subprocess.run(["make", "-s", "-C", ROOT / "record", "fuzz-facts", f"RUNS={FUZZED}"], capture_output=True,
                           text=True, errors="replace", timeout=SECONDS, check=False)
