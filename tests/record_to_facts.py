@@ -20,9 +20,10 @@ from record_logs import read_text, reader
 CONVERTER, PLAIN = ROOT / "record/out/pim-facts", ROOT / "tests/plain_facts"
 LOGS, TEXTS, FIRST_SEED, FUZZED = 250, 15, 1, 3000
 MOST_LINES = 250  # of the kernel's events
+KERNEL_HEAD = "pim-kernel 2\nkernel 6.18.44 x86_64\nclock mono\nprocess 701\nbegan 0\ncpus 2\n"
 OTHER_REASONS = ("it contradicts the records before it", "it names no place of the log", "its head isn't whole")
 
-# A log, and what is written of it behind the threads and the mutexes, without `end`.
+# A log, what is written of it behind the threads and the mutexes, without `end`, and the kernel's events, if there are.
 BY_HAND = {
     "a grant that is told late comes before the wait": ("""
         @1 1 THREAD 0x10 fifo 10
@@ -140,6 +141,12 @@ BY_HAND = {
         @30 1 RELEASE 0x500 none
         @40 2 GRANTED 0x500 none trylock
         """, "10 701 granted 1, 20 702 waits 1, 30 701 released 1, 40 702 granted 1"),
+    "a mutex in the first of two files that begin at one address": ("""
+        @1 1 THREAD 0x10 fifo 10
+        @2 1 MODULE 0x1000 text /lib/first
+        @3 1 MODULE 0x1000 text /lib/second
+        @10 1 GRANTED 0x1500 none
+        """, "10 701 granted 1"),
     "a wait for an own mutex": ("""
         @1 1 THREAD 0x10 fifo 10
         @10 1 GRANTED 0x500 none
@@ -161,6 +168,19 @@ BY_HAND = {
         @20 1 GRANTED 0x500 none
         @30 1 WAITED 0x700 semaphore took 20 error 110
         """, "10 701 blocks 1, 20 701 resumes 1, 20 701 granted 1"),
+    "a wait for a futex of which the log has the wait before it late": ("""
+        @1 1 THREAD 0x10 fifo 10
+        @2 2 THREAD 0x20 fifo 20
+        @100 1 WAIT 0x700 semaphore
+        @400 2 GRANTED 0x500 none
+        @200 1 WAITED 0x700 semaphore took 100
+        """, "100 701 blocks 1, 260 701 runs 10, 260 701 off asleep, 350 701 off ready, 400 702 granted 1, "
+             "200 701 resumes 1", """
+        250 0 701 wait 0x9 private
+        260 0 701 switch 89 S 0 120
+        350 0 702 wake 701
+        360 0 701 return 0
+        """),
     "waits that time out, fail, and last": ("""
         @1 1 THREAD 0x10 fifo 10
         @10 1 WAIT 0x700 semaphore
@@ -219,15 +239,17 @@ class Converter:
 
 
 def by_hand(converter):
-    for name, (log, wanted) in BY_HAND.items():
+    for name, (log, wanted, *events) in BY_HAND.items():
+        lines = [line.strip() for line in events[0].strip().splitlines()] if events else []
+        kernel = (KERNEL_HEAD + "".join(f"{line}\n" for line in lines)).encode() if lines else None
         wanted = [line.strip() for line in wanted.split(",")]
         data = bytes(read_text(log))
-        status, out, said = converter.run(data)
+        status, out, said = converter.run(data, None, kernel)
         begin = ("facts", "mutex", "object")
         lines = [line for line in out.decode().splitlines()
                  if not line.startswith(begin) and not (line.startswith("thread 7") or line.endswith(" end"))]
         check(f"facts of a log: {name}",
-              difference((status, said, *lines), (0, "", *wanted)) or converter.why(data))
+              difference((status, said, *lines), (0, "", *wanted)) or converter.why(data, None, kernel))
 
 
 def recordings(converter):
@@ -280,9 +302,8 @@ def random_events(converter):
 
 
 def every_word(converter):
-    words = ("granted took waits gave-up released priority ceiling blocks resumes by timed-out failed none inherit protect"
-             " recursive semaphore rwlock barrier thread condition futex runs on off ready asleep lost unseen"
-             " end")
+    words = ("granted took waits gave-up released priority ceiling blocks resumes by timed-out failed none inherit"
+             " protect recursive semaphore rwlock barrier thread condition futex runs on off ready asleep lost unseen end")
     missing = [word for word in words.split() if word not in converter.words]
     check("each word of facts is among these", f"no {missing}" if missing else None)
 
