@@ -12,7 +12,7 @@ from record_logs import log_facts, reader
 
 MOST_LEVEL, MOST_TIME, LAST_THREAD, MOST_THREADS = 100, 10**19 - 1, 2**32 - 2, 65536
 NAME_BYTES, INIT_BYTES, MOST_PLACES = 64, 48, 16
-MODULE_BYTES, MOST_PARENTS = 1 << 24, 16
+MODULE_BYTES, MOST_PARENTS, MOST_NUMBER = 1 << 24, 16, 8192
 NOT_PLACES = "by", "failed", "of", "timed-out"
 BLOCKS, RESUMES, UNKNOWN, OTHER = "blocks", "resumes", "unknown", "other"
 OF_MUTEX = log_facts.WAITS, log_facts.GAVE_UP, log_facts.RELEASED, log_facts.GRANTED
@@ -68,7 +68,7 @@ class Names:
                 word = "_" + word
             if word and found[1] == b"-":
                 self.by_address[int(found[2], 16)] = word
-            elif word and int(found[1]) <= len(reader.PLACES.unpack(bytes(65536))):
+            elif word and int(found[1]) <= MOST_NUMBER:
                 self.numbered[int(found[1])] = word
 
     def module(self, process, address):
@@ -76,15 +76,9 @@ class Names:
         processes = [process]
         while len(processes) <= MOST_PARENTS and processes[-1] in self.parents:
             processes.append(self.parents[processes[-1]])
-        there = [(begin, name) for begin, own, name in self.modules
-                 if process is None or own in processes]
-        nearest = {}
-        for own in ([None] if process is None else processes):
-            before = [one for one in self.modules if own in (None, one[1]) and one[0] <= address]
-            if before:
-                nearest[own] = max(before, key=lambda one: one[0])
-        near = [one for one in self.modules if one in nearest.values() and address - one[0] < MODULE_BYTES]
-        return max(near, key=lambda one: one[0], default=None) if there else None
+        there = [one for one in self.modules if process is None or one[1] in processes]
+        near = [one for one in there if 0 <= address - one[0] < MODULE_BYTES]
+        return max(near, key=lambda one: one[0], default=None)
 
     def file_at(self, process, address):
         module = self.module(process, address)

@@ -303,7 +303,8 @@ def random_events(converter):
 
 def every_word(converter):
     words = ("granted took waits gave-up released priority ceiling blocks resumes by timed-out failed none inherit"
-             " protect recursive semaphore rwlock barrier thread condition futex runs on off ready asleep lost unseen end")
+             " protect recursive semaphore rwlock barrier thread condition futex runs on off ready asleep lost end"
+             " unseen")
     missing = [word for word in words.split() if word not in converter.words]
     check("each word of facts is among these", f"no {missing}" if missing else None)
 
