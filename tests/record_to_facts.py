@@ -330,7 +330,11 @@ def command(converter):
         done = run(*words)
         is_one = done.stderr.count(b"\n") in (1, 2) and b"pim-facts" in done.stderr
         check(f"pim-facts refuses {what}", difference((done.returncode, done.stdout, is_one), (2, b"", True)))
-    log.write_bytes(data[:100])
+    status, out, said = converter.run(None, None, KERNEL_HEAD.replace("clock ", "").encode())
+    wanted = "pim-facts: LOG.kernel: line 3: it isn't the line that the head has there\n"
+    check("a head of the kernel's events without its words is refused",
+          difference((status, out, said), (2, b"", wanted)))
+    converter.run(data[:100])
     done = run("-o", output, log)
     check("nothing is written of a log that is refused", difference((done.returncode, output.exists()), (2, False)))
     with open("/dev/full", "wb") as full:

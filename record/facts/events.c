@@ -162,25 +162,22 @@ static const char *head_fault(struct events *events, struct line *line, int whic
                               bool *is_first) {
     static const char *const begins[HEAD_LINES] = { "pim-kernel ", "kernel ", "clock ",
                                                     "process ",    "began ",  "cpus " };
-    bool is_begun = take(line, begins[which]), is_mono;
+    bool is_begun = take(line, begins[which]), is_mono, is_known;
     uint64_t value;
     const char *fault = "it isn't the line that the head has there";
     switch (which) {
     case 0:
         if (!is_begun) return "it isn't a recording of the kernel's events";
         *is_first = is_next(line, "1");
-        return (take(line, "1") || take(line, "2")) && line->at == line->end
-                   ? NULL
-                   : "its version isn't known";
+        is_known = (take(line, "1") || take(line, "2")) && line->at == line->end;
+        return is_known ? NULL : "its version isn't known";
     case 1:
         is_begun = is_begun && is_word(line) && take(line, " ") && is_word(line);
         return is_begun && line->at == line->end ? NULL : fault;
     case 2:
         is_mono = take(line, "mono") && line->at == line->end;
-        return is_mono ? NULL
-               : is_begun && is_word(line) && line->at == line->end
-                   ? "its clock isn't that of the log"
-                   : fault;
+        if (!is_begun || (!is_mono && !(is_word(line) && line->at == line->end))) return fault;
+        return is_mono ? NULL : "its clock isn't that of the log";
     default:
         value = number(line);
         if (which == 4) events->began = value;

@@ -74,8 +74,8 @@ static void find_threads(struct reading *reading) {
     }
     for (uint32_t i = 0; i < reading->events.count; i++) {
         const struct kernel_event *event = &reading->events.list[i];
-        uint32_t thread = event->what == NAMED ? table_get(&reading->tasks, event->other, 0)
-                                               : NONE;
+        if (event->what != NAMED) continue;
+        uint32_t thread = table_get(&reading->tasks, event->other, 0);
         if (thread == NONE || thread < known) continue;
         const char *name = reading->events.bytes + event->value;
         log->names = with_room(log->names, log->name_count, sizeof *log->names);
@@ -193,9 +193,15 @@ static void keep_wait(struct reading *reading, const struct futex_call *call, ui
     reading->waits = with_room(reading->waits, reading->wait_count, sizeof *reading->waits);
     reading->begins[call->begin] = reading->wait_count;
     if (end != NONE) reading->ends[end] = reading->wait_count;
-    reading->waits[reading->wait_count++] = (struct futex_wait){ call->begin, end, NONE,
-                                                                 is_woken ? call->waker : NONE,
-                                                                 flags };
+    uint32_t waker = is_woken ? call->waker : NONE;
+    reading->waits[reading->wait_count++] =
+        (struct futex_wait){ call->begin, end, NONE, waker, flags };
+}
+
+/* Returns how a wait ended that returned this. */
+static uint16_t how_ended(int64_t result) {
+    if (result >= 0) return 0;
+    return result == -ETIMEDOUT ? IS_TIMED_OUT : HAS_FAILED;
 }
 
 /* Ends or goes on with the call of a task. Returns whether it has ended. */
@@ -208,11 +214,7 @@ static bool go_on(struct reading *reading, struct futex_call *call, uint32_t at)
     if (is_asleep && call->slept == NONE) call->slept = at;
     if (event->what == CALL || event->what == WAIT_CALL) keep_wait(reading, call, at, 0, false);
     if (event->what == RETURN && event->result != -EAGAIN)
-        keep_wait(reading, call, at,
-                  event->result >= 0            ? 0
-                  : event->result == -ETIMEDOUT ? IS_TIMED_OUT
-                                                : HAS_FAILED,
-                  event->result >= 0);
+        keep_wait(reading, call, at, how_ended(event->result), event->result >= 0);
     if (is_dead) keep_wait(reading, call, at, HAS_FAILED, false);
     return is_dead || event->what == CALL || event->what == WAIT_CALL || event->what == RETURN;
 }
@@ -240,7 +242,8 @@ static void find_futex_waits(struct reading *reading) {
         uint32_t *number = table_at(&calling, event->task, 0);
         if (*number == NONE) {
             calls = with_room(calls, count, sizeof *calls);
-            calls[ *number = count++] = (struct futex_call){ NONE, NONE, NONE };
+            calls[count] = (struct futex_call){ NONE, NONE, NONE };
+            *number = count++;
         }
         struct futex_call *call = &calls[*number];
         if (call->begin != NONE && go_on(reading, call, i)) call->begin = NONE;
@@ -277,11 +280,11 @@ static void find_leaves(struct reading *reading) {
         const struct kernel_event *event = &reading->events.list[i];
         reading->leaves[i] = false;
         if (event->what != SWITCH || event->cpu >= MOST_CPUS) continue;
-        const struct kernel_event *behind = next[event->cpu] == NONE
-                                                ? NULL
-                                                : &reading->events.list[next[event->cpu]];
+        uint32_t following = next[event->cpu];
         next[event->cpu] = i;
-        if (!behind || behind->task != event->other) continue;
+        if (following == NONE) continue;
+        const struct kernel_event *behind = &reading->events.list[following];
+        if (behind->task != event->other) continue;
         uint32_t before = losses_until(reading, event->time, false);
         reading->leaves[i] = before == losses_until(reading, behind->time, false) &&
                              (before == 0 || reading->losses[before - 1].end <= event->time);
@@ -327,8 +330,8 @@ static void put_event(struct reading *reading, uint32_t at) {
                                        FUTEX_ENDS);
         fact->value = wait->object;
         fact->flags = wait->flags;
-        fact->by = wait->waker && wait->waker != NONE ? table_get(&reading->tasks, wait->waker, 0)
-                                                      : NONE;
+        if (wait->waker && wait->waker != NONE)
+            fact->by = table_get(&reading->tasks, wait->waker, 0);
     }
     if (event->what == SWITCH) put_switch(reading, event, reading->leaves[at]);
     if (event->what == SETPRIO)

@@ -27,7 +27,8 @@ static struct name hexadecimal(uint64_t address) {
     struct name name = { 0 };
     char digits[2 + 16 + 1];
     int length = snprintf(digits, sizeof digits, "%#lx", (unsigned long)address);
-    add(&name, address ? digits : "0x0", address ? (size_t)length : 3);
+    if (address == 0) length = snprintf(digits, sizeof digits, "0x0");
+    add(&name, digits, (size_t)length);
     return name;
 }
 

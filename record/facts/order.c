@@ -394,7 +394,6 @@ static void number_threads(struct order *order) {
         order->declared[order->declared_count++] = thread;
         *table_at(&tasks, log->threads[thread].task, 0) = 0;
     }
-    if (order->declared_count >= MOST_THREADS) refuse(log->path, "it has more than 65535 threads");
     sorted_threads = log->threads;
     qsort(order->declared, order->declared_count, sizeof *order->declared, by_number);
     for (uint32_t i = 0; i < order->declared_count; i++) {
@@ -433,9 +432,12 @@ static void declare_mutexes(struct order *order) {
         text_word(order->text, "mutex");
         text_number(order->text, (uint64_t)i + 1);
         if (is_recursive(mutex)) text_word(order->text, " recursive");
-        text_word(order->text, is_protect(mutex) ? " protect" : is_inherit ? " inherit" : " none");
-        if (is_protect(mutex))
+        if (is_protect(mutex)) {
+            text_word(order->text, " protect");
             text_number(order->text, ceiling < LEVEL_MOST ? ceiling : LEVEL_MOST);
+        } else {
+            text_word(order->text, is_inherit ? " inherit" : " none");
+        }
         text_name(order->text, &name);
         text_end(order->text);
     }
