@@ -25,6 +25,8 @@ UNSEEN = (("left_out", "call", "that the recorder couldn't see whole"),
           ("lost", "record", "for which the log had no room"),
           ("dropped", "early record", "that {} dropped for later ones"),
           ("unplaced", "record", "for whose {} the log had no room"))
+UNKNOWN_OF_MUTEXES = ((1, "kinds of mutexes"), (2, "ceilings of mutexes"),
+                      (4, "requests for mutexes, whose owners weren't known"))
 
 
 def visible(text):
@@ -296,6 +298,8 @@ class Writer:
                 continue
             process, kind, address = thing
             self.lines.append(f"object {number} {kind} {self.names.address(process, address)}")
+        known = 7 if self.whole.head.known is None else self.whole.head.known
+        self.lines += [f"unseen {what}" for bit, what in UNKNOWN_OF_MUTEXES if not known & bit]
         for field, what, why in UNSEEN:
             count = getattr(self.whole.head, field)
             if count:

@@ -468,8 +468,19 @@ static void put_unseen(struct order *order, uint64_t count, const char *one, con
     text_end(order->text);
 }
 
+/* Writes a line of what the recorder didn't know of mutexes, if it didn't. */
+static void put_unknown(struct order *order, uint32_t known, const char *what) {
+    if (order->log->header.known & known || order->log->length == 0) return;
+    text_begin(order->text);
+    text_word(order->text, what);
+    text_end(order->text);
+}
+
 static void declare_unseen(struct order *order) {
     const struct header *header = &order->log->header;
+    put_unknown(order, KNOWN_KIND, "unseen kinds of mutexes");
+    put_unknown(order, KNOWN_CEILING, "unseen ceilings of mutexes");
+    put_unknown(order, KNOWN_OWNER, "unseen requests for mutexes, whose owners weren't known");
     put_unseen(order, header->left_out, " call that the recorder couldn't see whole",
                " calls that the recorder couldn't see whole");
     put_unseen(order, header->lost, " record for which the log had no room",
