@@ -87,6 +87,7 @@ static void read_line(struct names *names, const char *line, const char *end) {
     if (word.length == 0) return;
     if (number > 0) {
         names->numbered[number] = word;
+        names->has_numbered = true;
         return;
     }
     uint32_t *known = table_at(&names->by_address, address, 0);
@@ -200,18 +201,20 @@ static uint32_t find_word(struct names *names, uint32_t place, uint32_t process)
         names->words[*word = names->word_count++] =
             in_module(names, module_at(names, process, address), address);
     }
-    names->processes[place] = process;
-    return names->last[place] = *word + 1;
+    names->last[place] = (struct word){ *word + 1, process };
+    return *word + 1;
 }
 
 const struct name *name_of_place(struct names *names, uint32_t record) {
     static const struct name nothing;
     uint32_t place = place_of(names->log, record_at(names->log, record));
     if (place == 0) return &nothing;
-    if (names->numbered[place].length) return &names->numbered[place];
-    uint32_t process = chunk_at(names->log, record)->process, last = names->last[place];
-    if (last == 0 || names->processes[place] != process) last = find_word(names, place, process);
-    return &names->words[last - 1];
+    if (names->has_numbered && names->numbered[place].length) return &names->numbered[place];
+    uint32_t process = chunk_at(names->log, record)->process;
+    struct word last = names->last[place];
+    bool is_known = last.number && last.process == process;
+    uint32_t number = is_known ? last.number : find_word(names, place, process);
+    return &names->words[number - 1];
 }
 
 struct name name_of_address(struct names *names, uint32_t process, uint64_t address) {

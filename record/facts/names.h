@@ -5,6 +5,11 @@
 
 #include "log_file.h"
 
+/* 1 + the number of the word of a place in a process, or 0. */
+struct word {
+    uint32_t number, process;
+};
+
 struct names {
     struct log *log;
     struct module *modules; /* of the log, by process and begin, the first of equal ones last */
@@ -14,9 +19,9 @@ struct names {
     struct table by_address;
     struct name *words; /* of other places in a process: */
     struct table by_process;
-    uint32_t last[PLACE_SLOTS + 1];      /* by place its word that was asked for last */
-    uint32_t processes[PLACE_SLOTS + 1]; /* and the process */
+    struct word last[PLACE_SLOTS + 1]; /* by place what was asked for last */
     uint32_t text_count, word_count;
+    bool has_numbered;
 };
 
 /* Reads what LOG.places says, which may be empty. */
