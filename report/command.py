@@ -1,0 +1,152 @@
+"""The arguments of pim-report, and what it does."""
+import argparse
+import os
+import pathlib
+import sys
+
+from choice import Unknown
+from facts_text import Facts
+from findings import Findings
+from other_programs import Fault, Progress, facts_of, rows_of
+from recording import Recording
+from rows_text import Rows
+from terminal import MOST, Terminal
+from words import nanoseconds_of
+
+HELP = """\
+usage: pim-report RECORDING [OPTION ..]
+       pim-report --facts FILE|- [OPTION ..]
+
+Says which threads of a real-time program were held up by less urgent ones: at which line, for how
+long, which thread had to run, and what to change. The worst comes first.
+
+RECORDING is a log that pim-record wrote; what the kernel did is in RECORDING.kernel. A text of
+facts, of any other recorder, is read with --facts; - is standard input. docs/FACTS.md says what
+that is.
+
+  -f, --facts FILE     read a text of facts in place of a recording
+  -j, --json           print JSON in place of the text; docs/REPORT.md has its keys
+  -a, --all            print all findings of each kind
+  -n, --top N          print at most N findings of each kind: 10 if it isn't given
+  -t, --thread NAME    show only what a thread has a part in. A number will do, too
+  -m, --mutex NAME     show only what is of a mutex, or of a semaphore and the like
+  -s, --since TIME     show only what lasted at TIME or later, as 1.5s, 200ms or 10us
+      --findings COMMAND   what makes rows of facts. Without it, pim-findings is looked for next to
+                       pim-report, and on PATH
+      --converter COMMAND  what makes facts of a recording; without it, pim-facts
+  -h, --help           this text
+      --version        the version
+
+Status: 1 if a thread was held up and nothing bounded it, there is a deadlock, or the kernel ran a
+thread for more than 50 us at another level than its mutexes give; 0 if not; 2 after a fault. With
+--thread, --mutex and --since it is that of what is shown.
+
+    $ pim-record -o run ./controller
+    $ pim-report run                       # the text
+    $ pim-report --facts run.facts --thread servo --json
+"""
+ROOTS = pathlib.Path(__file__).resolve().parent, pathlib.Path(__file__).resolve().parent.parent
+
+
+class Parser(argparse.ArgumentParser):
+    def error(self, message):
+        raise Fault(f"{message}; pim-report --help says more")
+
+
+def time_of(text):
+    found = nanoseconds_of(text)
+    if found is None:
+        raise argparse.ArgumentTypeError(f"{text} isn't a time, as 1.5s")
+    return found
+
+
+def number_of(text):
+    if not text.isascii() or not text.isdigit() or not 0 < int(text) < 10**9:
+        raise argparse.ArgumentTypeError(f"{text} isn't a number above 0")
+    return int(text)
+
+
+def arguments(words):
+    parser = Parser(prog="pim-report", add_help=False, allow_abbrev=False)
+    parser.add_argument("recording", nargs="?")
+    for short, name in (("-f", "facts"), ("-t", "thread"), ("-m", "mutex")):
+        parser.add_argument(short, f"--{name}")
+    for short, name in (("-j", "json"), ("-a", "all")):
+        parser.add_argument(short, f"--{name}", action="store_true")
+    parser.add_argument("-n", "--top", type=number_of)
+    parser.add_argument("-s", "--since", type=time_of, default=0)
+    for name in ("findings", "converter"):
+        parser.add_argument(f"--{name}")
+    given = parser.parse_args(words)
+    if bool(given.recording) == bool(given.facts):
+        raise Fault("name a recording, or a text of facts with --facts; pim-report --help says"
+                    " more")
+    if given.all and given.top:
+        raise Fault("--all and --top don't go together")
+    return given
+
+
+def read(given):
+    """Returns the bytes of the facts."""
+    if given.recording:
+        return facts_of(given.recording, given.converter)
+    if given.facts == "-":
+        return sys.stdin.buffer.read()
+    try:
+        return pathlib.Path(given.facts).read_bytes()
+    except OSError as fault:
+        raise Fault(f"{given.facts}: {fault.strerror}") from fault
+
+
+def report(given):
+    """Writes what is asked for. Returns the status."""
+    data = read(given)
+    rows = rows_of(data, given.findings)
+    with Progress("making the report"):
+        recording = Recording(Facts(data), Rows.read(rows), given.thread, given.mutex, given.since)
+        findings = Findings(recording)
+        text = text_of(given, findings)
+    sys.stdout.write(text)
+    sys.stdout.flush()
+    return findings.status
+
+
+def text_of(given, findings):
+    if given.json:
+        from json_report import json_of
+        return json_of(findings)
+    most = 10**9 if given.all else given.top or MOST
+    is_coloured = sys.stdout.isatty() and "NO_COLOR" not in os.environ
+    return Terminal(findings, is_coloured, most).text()
+
+
+def version():
+    """Returns the version, which is in a file next to pim-report or above it."""
+    found = [root / "VERSION" for root in ROOTS if (root / "VERSION").is_file()]
+    return found[0].read_text().strip() if found else "unknown"
+
+
+def answer(words):
+    """Returns the status."""
+    if any(word in ("-h", "--help") for word in words):
+        sys.stdout.write(HELP)
+        return 0
+    if "--version" in words:
+        print(f"pim-report {version()}")
+        return 0
+    return report(arguments(words))
+
+
+def main():
+    try:
+        status = answer(sys.argv[1:])
+        sys.stdout.flush()
+    except (Fault, Unknown) as fault:
+        status = 2
+        if str(fault):
+            print(f"pim-report: {fault}", file=sys.stderr)
+    except BrokenPipeError:
+        # Nobody reads what is left to write.
+        os.dup2(os.open(os.devnull, os.O_WRONLY), sys.stdout.fileno())
+        status = 2
+    sys.exit(status)

@@ -1,0 +1,171 @@
+"""Findings of waits for mutexes: held up, stalled, bounded and plain ones."""
+from bisect import bisect_left
+
+from finding import finding_of, first_of, similar
+from words import duration
+
+BOUNDS = {"inherit": "bounds it by inheritance", "protect": "bounds it by its ceiling"}
+
+
+class MutexWaits:
+    def __init__(self, recording):
+        self.recording, self.facts, self.names = recording, recording.facts, recording.names
+        self.waits, self.dead = recording.rows.waits, self.find_dead()
+        self.late_waits = self.without_links()
+
+    def findings(self):
+        late = {wait.line for wait in self.late_waits}
+        rest = [wait for wait in self.waits if wait.line not in late and wait.line not in self.dead]
+        stalled = [wait for wait in rest if wait.stalled and wait.level and not wait.inverted]
+        lines = {wait.line for wait in stalled}
+        rest = [wait for wait in rest if wait.line not in lines]
+        bounded = [wait for wait in rest if wait.lower and not wait.inverted]
+        plain = [wait for wait in rest if not wait.lower or wait.inverted]
+        yield from self.late()
+        yield from self.stalled(stalled)
+        yield from self.bounded(bounded)
+        yield from self.plain(plain)
+
+    def find_dead(self):
+        """Returns by line the waits at the end that are in a deadlock, or lead into one."""
+        last = self.recording.all_rows.open_waits()
+        dead = {thread for cycle in self.recording.all_rows.deadlocks for thread in cycle}
+        found, more = {}, [last[thread] for thread in dead]
+        while more:
+            found.update((wait.line, wait) for wait in more)
+            dead.update(wait.thread for wait in more)
+            more = [wait for wait in last.values() if wait.owner in dead and wait.line not in found]
+        return found
+
+    # ---- held up
+
+    def without_links(self):
+        """Returns the inverted waits without the links of chains.
+
+        A link is the wait of a thread that is no more urgent than the thread that held it up, and
+        was only raised by another wait, which is a finding itself.
+        """
+        late = [wait for wait in self.waits if wait.inverted]
+        own = {wait.line: wait for wait in late
+               if any(wait.level > part.gets for part in wait.parts)}
+        ends = {}
+        for wait in sorted(own.values(), key=lambda wait: wait.begin):
+            for runner in {part.runner for part in wait.parts}:
+                begins, until = ends.setdefault(runner, ([], []))
+                begins.append(wait.begin)
+                until.append(max(wait.end, until[-1] if until else 0))
+
+        def is_link(wait):
+            for part in wait.parts:
+                begins, until = ends.get(part.runner, ([], []))
+                before = bisect_left(begins, wait.end)
+                if before and until[before - 1] > wait.begin:
+                    return True
+            return False
+
+        return [wait for wait in late if wait.line in own or not is_link(wait)]
+
+    def late(self):
+        """Waits that are inverted: the thread that had to run wasn't urgent enough."""
+        def size_of(wait):
+            return wait.inverted
+
+        def blamed_of(wait):
+            return wait.worst_part.mutex
+
+        for group in similar(self.recording, self.late_waits, blamed_of, size_of):
+            found, worst = finding_of(self.recording, "late", group, size_of), group[0]
+            parts = sorted((part for wait in group for part in wait.parts),
+                           key=lambda part: -part.time)
+            found.by = first_of((part.runner, part.gets) for part in parts)
+            found.why = self.reason(worst)
+            found.advice = self.advice(group, list(dict.fromkeys(map(blamed_of, group))))
+            found.meanwhile = sorted(worst.meanwhile, key=lambda one: -one.time)
+            if worst.stalled:
+                found.lines.append(f"for {duration(worst.stalled)} of it {self.held(worst)}")
+            yield found
+
+    def reason(self, wait):
+        """Says why nothing, or too little, was passed on in a wait."""
+        blamed, runner, gets, _ = wait.worst_part
+        mutex, name = self.facts.mutexes[blamed], self.names.mutex(blamed)
+        if mutex.protocol == "protect":
+            ceiling = self.facts.ceiling(blamed, wait.line)
+            passes = (f"the ceiling of {name} is {ceiling}, below the {wait.gets} of"
+                      f" {self.names.thread(wait.thread)}" if ceiling < wait.gets else
+                      f"the ceiling of {name} became too low for {self.names.thread(wait.thread)}")
+        else:
+            passes = (f"{name} is {self.names.protocol(blamed)} and passes nothing on:"
+                      f" {self.names.thread(runner)} stayed at {gets}")
+        way = self.recording.way(wait, runner)
+        if len(way) < 2:
+            return passes
+        chain = ", which ".join(
+            f"waited for {self.names.mutex(mutex)} of {self.names.thread(owner)}"
+            for mutex, owner in way)
+        return f"{self.names.thread(wait.thread)} {chain}; {passes}"
+
+    def advice(self, group, blamed):
+        """Says what to write at the mutexes that are to blame."""
+        first, origin = blamed[0], self.names.origin(blamed[0])
+        mutex, name = self.facts.mutexes[first], f"{self.names.mutex(first)}{origin}"
+        comma = "," if origin else ""
+        if mutex.protocol == "protect":
+            return f"raise the ceiling of {name}{comma} to {max(wait.gets for wait in group)}"
+        if len(blamed) > 1 and mutex.place:
+            return f"make the {len(blamed)} mutexes{origin[1:]} PTHREAD_PRIO_INHERIT"
+        return f"make {name}{comma} PTHREAD_PRIO_INHERIT"
+
+    # ---- the others
+
+    def stalled(self, waits):
+        """Waits whose runner waited for something else meanwhile."""
+        def size_of(wait):
+            return wait.stalled
+
+        for group in similar(self.recording, waits, lambda wait: 0, size_of):
+            found, worst = finding_of(self.recording, "stalled", group, size_of), group[0]
+            stalls = sorted(((wait, stall) for wait in group for stall in wait.stalls),
+                            key=lambda one: -one[1].time)
+            found.by = first_of((stall.runner, self.facts.level(stall.runner, wait.line))
+                                for wait, stall in stalls)
+            what = self.names.the_object(worst.worst_stall.object)
+            found.why = self.held(worst)
+            found.advice = f"don't wait for {what} while owning {self.held_mutex(worst)}"
+            yield found
+
+    def held_mutex(self, wait):
+        """Returns the mutex that the runner of a stalled wait held, as far as that is known."""
+        runner = wait.worst_stall.runner
+        way = self.recording.way(wait, runner)
+        return self.names.mutex(way[-1][0] if way else wait.mutex)
+
+    def held(self, wait):
+        """Says what the runner of a stalled wait did."""
+        stall = wait.worst_stall
+        return (f"{self.names.thread(stall.runner)} held {self.held_mutex(wait)} while it waited"
+                f" for {self.names.the_object(stall.object)}")
+
+    def bounded(self, waits):
+        """Waits for lower threads that a protocol bounds."""
+        def size_of(wait):
+            return wait.lower
+
+        for group in similar(self.recording, waits, lambda wait: 0, size_of):
+            found = finding_of(self.recording, "bounded", group, size_of)
+            how = BOUNDS.get(found.protocol,
+                             "passes nothing on, but its owner was urgent enough by another one")
+            found.why = f"{self.names.mutex(group[0].mutex)} {how}"
+            yield found
+
+    def plain(self, waits):
+        """Waits for threads that are as urgent, or more, and links of chains."""
+        def size_of(wait):
+            return wait.lasted
+
+        for group in similar(self.recording, waits, lambda wait: 0, size_of):
+            found = finding_of(self.recording, "wait", group, size_of)
+            found.why = ("it is a part of how another thread was held up" if group[0].inverted
+                         else "the thread that it waited for was no less urgent" if group[0].owner
+                         else "the mutex was free: its next owner was quicker")
+            yield found
