@@ -25,8 +25,9 @@ facts, of any other recorder, is read with --facts; - is standard input. docs/FA
 that is.
 
   -f, --facts FILE     read a text of facts in place of a recording
+  -H, --html FILE      write a page too, which opens from the disk and needs no network
   -j, --json           print JSON in place of the text; docs/REPORT.md has its keys
-  -a, --all            print all findings of each kind
+  -a, --all            print all findings of each kind, and keep all facts in the page
   -n, --top N          print at most N findings of each kind: 10 if it isn't given
   -t, --thread NAME    show only what a thread has a part in. A number will do, too
   -m, --mutex NAME     show only what is of a mutex, or of a semaphore and the like
@@ -43,6 +44,7 @@ thread for more than 50 us at another level than its mutexes give; 0 if not; 2 a
 
     $ pim-record -o run ./controller
     $ pim-report run                       # the text
+    $ pim-report run --html run.html       # the same as a page, with lanes over time
     $ pim-report --facts run.facts --thread servo --json
 """
 ROOTS = pathlib.Path(__file__).resolve().parent, pathlib.Path(__file__).resolve().parent.parent
@@ -69,7 +71,7 @@ def number_of(text):
 def arguments(words):
     parser = Parser(prog="pim-report", add_help=False, allow_abbrev=False)
     parser.add_argument("recording", nargs="?")
-    for short, name in (("-f", "facts"), ("-t", "thread"), ("-m", "mutex")):
+    for short, name in (("-f", "facts"), ("-H", "html"), ("-t", "thread"), ("-m", "mutex")):
         parser.add_argument(short, f"--{name}")
     for short, name in (("-j", "json"), ("-a", "all")):
         parser.add_argument(short, f"--{name}", action="store_true")
@@ -105,6 +107,8 @@ def report(given):
     with Progress("making the report"):
         recording = Recording(Facts(data), Rows.read(rows), given.thread, given.mutex, given.since)
         findings = Findings(recording)
+        if given.html:
+            write_page(given, findings)
         text = text_of(given, findings)
     sys.stdout.write(text)
     sys.stdout.flush()
@@ -118,6 +122,16 @@ def text_of(given, findings):
     most = 10**9 if given.all else given.top or MOST
     is_coloured = sys.stdout.isatty() and "NO_COLOR" not in os.environ
     return Terminal(findings, is_coloured, most).text()
+
+
+def write_page(given, findings):
+    from html_page import page_of
+    title = pathlib.Path(given.recording or given.facts).name
+    page = page_of("standard input" if given.facts == "-" else title, findings, given.all)
+    try:
+        pathlib.Path(given.html).write_text(page, encoding="utf-8")
+    except OSError as fault:
+        raise Fault(f"{given.html}: {fault.strerror}") from fault
 
 
 def version():

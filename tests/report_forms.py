@@ -1,12 +1,18 @@
-"""The forms of a report say the same: the text and the JSON."""
+"""The forms of a report say the same: the text, the JSON and the page."""
+import base64
+import html
 import json
 import re
+import zlib
+from collections import Counter
 
 from checks import ROOT, check
+from html_page import page_of
 from json_report import json_of
 from terminal import Terminal
 from words import duration
 
+TIME = r"([\d.,]+ (?:s|ms|us|ns))"
 PAGE = (ROOT / "docs/REPORT.md").read_text()
 
 
@@ -74,7 +80,7 @@ def figures(text, titles):
     for line in text.splitlines():
         if re.match(r"[A-Z]{3}", line):
             kind = next((kind for kind, title in titles.items() if line.startswith(title)), None)
-        row = re.match(r" {0,6}([\d,]+) +([\d.,]+ (?:s|ms|us|ns)) +([\d.,]+ (?:s|ms|us|ns))  ", line)
+        row = re.match(fr" {{0,6}}([\d,]+) +{TIME} +{TIME}  ", line)
         if kind and row:
             found.append((kind, *row.groups()))
     return found
@@ -94,3 +100,183 @@ def same_findings(found):
         if figures(text, terminal.TITLES) != wanted or lacks:
             wrong.append(f"{seed} {lacks}")
     check("the text and the JSON say the same", ", ".join(wrong[:5]))
+
+
+# ---- the page
+
+class Packed:
+    """What a page has packed, read again."""
+
+    def __init__(self, data):
+        self.bytes, self.at = zlib.decompress(base64.b64decode(data["packed"])), 0
+        lanes = [self.lane(data) for _ in data["threads"]]
+        columns = zip(*lanes) if lanes else [()] * 6
+        self.waits, self.blocked, self.owns, self.stays, self.gets, self.ran = columns
+        self.spots = [[self.numbers(4) for _ in range(self.next())] for _ in data["findings"]]
+
+    def next(self):
+        number, size = 0, 0
+        while True:
+            byte, self.at = self.bytes[self.at], self.at + 1
+            number |= (byte & 127) << size
+            size += 7
+            if byte < 128:
+                return number
+
+    def numbers(self, count):
+        return [self.next() for _ in range(count)]
+
+    def ascending(self, rest):
+        """Returns items of a time, as a distance, and other numbers."""
+        items, at = [], 0
+        for _ in range(self.next()):
+            at += self.next()
+            items.append((at, *self.numbers(rest)))
+        return items
+
+    def lane(self, data):
+        found, at = ([], [], []), 0
+        for _ in range(self.next()):
+            at += self.next()
+            lasted, kind = self.numbers(2)
+            read = (lambda: self.numbers(2), self.wait, lambda: self.numbers(8))[kind % 3]
+            found[kind % 3].append((at, lasted, read()))
+        others = [self.ascending(rest) for rest in (1, 2, 3)]
+        if data["windows"] is not None:
+            self.numbers(2 * data["columns"])
+        owns, waits, blocked = found
+        return (waits, blocked, owns, *others)
+
+    def wait(self):
+        numbers = self.numbers(10)
+        late = [self.numbers(4) for _ in range(self.next())]
+        return numbers, late, [self.numbers(3) for _ in range(self.next())]
+
+
+def data_of(page):
+    """Returns the data of a page."""
+    return json.loads(re.search(r'<script type="application/json" id="data">(.*?)</', page)[1])
+
+
+def waits_of(packed, data, value):
+    """Returns the waits of a page as the JSON has them: who, when, for how long, why."""
+    threads = {one["called"]: one["number"] for one in value["threads"]}
+    number = [threads[one["name"]] for one in data["threads"]]
+    mutex = [one["number"] for one in value["mutexes"]]
+    for at, waits in enumerate(packed.waits):
+        for begin, lasted, (numbers, late, meanwhile) in waits:
+            parts = Counter()
+            for _, time, blamed, runner in late:
+                parts[mutex[blamed], number[runner]] += time
+            owner = number[numbers[4] - 1] if numbers[4] else 0
+            yield (number[at], begin, lasted, mutex[numbers[0]], *numbers[2:4], owner, numbers[5],
+                   *numbers[7:10], sorted(parts.items()),
+                   sorted((number[lane], level, time) for lane, level, time in meanwhile))
+
+
+def waits_wanted(value):
+    for one in value["waits"]:
+        parts = Counter()
+        for part in one["parts"]:
+            parts[part["mutex"], part["runner"]] += part["time"]
+        yield (one["thread"], one["from"], one["lasted"], one["mutex"], one["level"], one["gets"],
+               one["owner"], one["owner_level"], int(one["until"] == 0), one["lower"],
+               one["stalled"], sorted(parts.items()),
+               sorted(tuple(ran.values()) for ran in one["meanwhile"]))
+
+
+def sections_of(packed, data, value):
+    """Returns by thread and mutex how often it was owned, and for how long at most."""
+    found, threads = {}, {one["called"]: one["number"] for one in value["threads"]}
+    for at, owns in enumerate(packed.owns):
+        for _, lasted, (mutex, _) in owns:
+            key = threads[data["threads"][at]["name"]], value["mutexes"][mutex]["number"]
+            count, longest = found.get(key, (0, 0))
+            found[key] = count + 1, max(longest, lasted)
+    return found
+
+
+def sections_wanted(value):
+    found = {}
+    for one in value["sections"]:
+        count, longest = found.get((one["thread"], one["mutex"]), (0, 0))
+        found[one["thread"], one["mutex"]] = (
+            count + one["count"], max(longest, one["longest"]))
+    return found
+
+
+def blocked_of(packed):
+    return sorted((begin, lasted, numbers[2], numbers[4], numbers[6], numbers[7])
+                  for lane in packed.blocked for begin, lasted, numbers in lane)
+
+
+def blocked_wanted(value):
+    ended = {None: 0, "by": 1, "timed-out": 2, "failed": 3}
+    return sorted((one["from"], one["lasted"], one["level"], one["by_level"],
+                   int(one["until"] == 0), ended[one["ended"]]) for one in value["blocked"])
+
+
+def has_spots(spots, finding, value):
+    """Returns whether a finding has a spot in the picture for each of its rows."""
+    if finding["kind"] == "orders":
+        return len(spots) == 2
+    key = {"ran": "ran", "look": "blocked", "other": "blocked"}.get(finding["kind"], "waits")
+    threads = {one["thread"] for one in finding["who"]}
+    rows = {row["line"]: row for row in value[key] if row["thread"] in threads}
+    wanted = [(rows[line]["from"], rows[line]["lasted"]) for line in finding["rows"]]
+    return [(begin, lasted) for _, begin, lasted, _ in spots] == wanted
+
+
+def page_difference(one):
+    """Says where a page and the JSON differ, or returns None."""
+    page, value = page_of("title", one), json.loads(json_of(one))
+    data = data_of(page)
+    packed = Packed(data)
+    if sorted(waits_of(packed, data, value)) != sorted(waits_wanted(value)):
+        return "waits"
+    if sections_of(packed, data, value) != sections_wanted(value):
+        return "sections"
+    if blocked_of(packed) != blocked_wanted(value):
+        return "blocked"
+    ran = sorted((row["from"], row["lasted"], row["level"], row["gets"]) for row in value["ran"])
+    if sorted(row for lane in packed.ran for row in lane) != ran:
+        return "ran"
+    keys = "kind", "what", "where", "taken", "callers", "times", "worst", "total", "why", "advice"
+    if [[it[key] for key in keys] for it in data["findings"]] != [
+            [it[key] for key in keys] for it in value["findings"]]:
+        return "findings"
+    if not all(map(has_spots, packed.spots, value["findings"], [value] * len(data["findings"]))):
+        return "spots"
+    text, heading = (html.unescape(re.search(rf"(?s)<{tag}>(.*?)</{tag}>", page)[1])
+                     for tag in ("pre", "h1"))
+    is_same = text == Terminal(one).text() and heading == value["verdict"][0]
+    return None if is_same else "text"
+
+
+def pages(found):
+    """The page has the numbers of the JSON; its stretches add up to the sums of the rows."""
+    wrong = []
+    for at, one in enumerate(found):
+        why = page_difference(one)
+        wrong += [f"{at}: {why}"] if why else []
+    check("the page and the JSON say the same", ", ".join(wrong[:5]))
+
+
+def network(page):
+    """A page asks for nothing, and is small."""
+    found = re.findall(r"https?:|//\w+\.|\bsrc=|@import|url\(|fetch\(|XMLHttp|WebSocket|sendBeacon"
+                       r"|EventSource|import\(|<link(?! rel=\"icon\" href=\"data:,\")", page)
+    check("the page asks for nothing", ", ".join(found))
+    policy = re.search(r'Content-Security-Policy" content="([^"]*)"', page)
+    check("its policy forbids it", None if policy and "default-src 'none'" in policy[1] else "no")
+    size = len(page.encode()) - len(data_of(page)["packed"])
+    check("it has less than 150 KB beside its data", None if size < 150_000 else str(size))
+
+
+def hostile(found):
+    """Names can't become parts of the page."""
+    page = page_of("<b>&'\"", found)
+    data, script = data_of(page), page.partition("id=\"data\">")[2]
+    is_kept = data["threads"][0]["name"] == "<!--<script>" and data["title"] == "<b>&'\""
+    check("names like tags", None if is_kept and "<!--" not in page and "<b>" not in page.partition(
+        "<main")[0].replace("<b>&lt;b&gt;", "") and script else "they are parts of the page")
