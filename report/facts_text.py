@@ -135,6 +135,9 @@ class Facts:
 
     def place(self, line):
         """Returns the innermost place of a line, or an empty text."""
+        words = self.lines[line - 1].split(b" ", 5)
+        if line and words[2:3] == [b"waits"]:  # most of them
+            return words[4].decode() if len(words) > 4 else ""
         return next(iter(self.places(line)), "")
 
     def owner(self, mutex, grant, line):

@@ -66,13 +66,11 @@ def similar(recording, waits, blamed_of, size_of):
     """
     groups, facts = {}, recording.facts
 
-    def origin(number):
-        mutex = number and facts.mutexes[number]
-        return mutex and (mutex.protocol, mutex.place or mutex.number)
-
+    origins = {mutex.number: (mutex.protocol, mutex.place or mutex.number)
+               for mutex in facts.mutexes.values()}
     for wait in waits:
         where = facts.place(wait.line) or recording.names.stem(wait.thread)
-        key = where, origin(wait.mutex), origin(blamed_of(wait))
+        key = where, origins[wait.mutex], origins.get(blamed_of(wait))
         groups.setdefault(key, []).append(wait)
     return [sorted(group, key=size_of, reverse=True) for group in groups.values()]
 

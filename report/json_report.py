@@ -1,13 +1,10 @@
 """A report as JSON: all rows with names and places, and the findings, as docs/REPORT.md says."""
 import json
-from dataclasses import fields
 
 from verdict import Verdict
 
 VERSION = 1
 ENDED = {1: "by", 2: "timed-out", 3: "failed"}
-# Parts of a row `wait` that are lists of rows, or come with names.
-PARTS = "parts", "stalls", "meanwhile"
 
 
 class JsonReport:
@@ -60,10 +57,8 @@ class JsonReport:
     @staticmethod
     def numbers(row):
         """Returns a row's own numbers. When it began is called `from`, as in docs/ROWS.md."""
-        named = [one.name for one in fields(row)] if hasattr(row, "__dataclass_fields__") else (
-            row._fields)
-        return {"from" if name == "begin" else name: getattr(row, name)
-                for name in named if name not in PARTS}
+        named = getattr(row, "_fields", None) or row.NUMBERS
+        return {"from" if name == "begin" else name: getattr(row, name) for name in named}
 
     def wait(self, one):
         return {**self.numbers(one), "at": self.places(one.line),

@@ -47,7 +47,7 @@ class MutexWaits:
         """
         late = [wait for wait in self.waits if wait.inverted]
         own = {wait.line: wait for wait in late
-               if any(wait.level > part.gets for part in wait.parts)}
+               if wait.level > min(part.gets for part in wait.parts)}
         ends = {}
         for wait in sorted(own.values(), key=lambda wait: wait.begin):
             for runner in {part.runner for part in wait.parts}:

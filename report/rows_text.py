@@ -1,6 +1,5 @@
 """Rows, as docs/ROWS.md defines them: what pim-findings writes of a text of facts."""
 from collections import namedtuple
-from dataclasses import dataclass, field
 
 UNKNOWN, GIVEN, TIMED_OUT, FAILED = range(4)  # how a wait for an object ended
 
@@ -12,26 +11,17 @@ Section = namedtuple("Section", "thread mutex level count longest line used")
 Nest = namedtuple("Nest", "thread outer inner count taken line")
 
 
-@dataclass
 class Wait:
     """A wait for a mutex. The levels and the owner are those as it began."""
-    line: int
-    until: int
-    thread: int
-    mutex: int
-    begin: int
-    lasted: int
-    level: int
-    gets: int
-    owner: int
-    owner_level: int
-    taken: int
-    inverted: int
-    lower: int
-    stalled: int
-    parts: list = field(default_factory=list)
-    stalls: list = field(default_factory=list)
-    meanwhile: list = field(default_factory=list)
+    NUMBERS = ("line", "until", "thread", "mutex", "begin", "lasted", "level", "gets", "owner",
+               "owner_level", "taken", "inverted", "lower", "stalled")
+    __slots__ = (*NUMBERS, "parts", "stalls", "meanwhile")
+
+    def __init__(self, numbers):
+        (self.line, self.until, self.thread, self.mutex, self.begin, self.lasted, self.level,
+         self.gets, self.owner, self.owner_level, self.taken, self.inverted, self.lower,
+         self.stalled) = numbers
+        self.parts, self.stalls, self.meanwhile = [], [], []
 
     @property
     def end(self):
@@ -40,7 +30,8 @@ class Wait:
     @property
     def worst_part(self):
         """Returns the part that held it up longest."""
-        return max(self.parts, key=lambda part: part.time)
+        return self.parts[0] if len(self.parts) == 1 else max(
+            self.parts, key=lambda part: part.time)
 
     @property
     def worst_stall(self):
@@ -55,19 +46,13 @@ class Wait:
         return found - {0}
 
 
-@dataclass
-class Blocked:
+BlockedNumbers = namedtuple(
+    "BlockedNumbers", "line until thread object begin lasted level ended by by_level")
+
+
+class Blocked(BlockedNumbers):
     """A wait for what isn't a mutex."""
-    line: int
-    until: int
-    thread: int
-    object: int
-    begin: int
-    lasted: int
-    level: int
-    ended: int
-    by: int
-    by_level: int
+    __slots__ = ()
 
     @property
     def end(self):
@@ -89,16 +74,16 @@ class Rows:
         parts = {"inverted": (Part, "parts"), "stalled": (Stall, "stalls"),
                  "meanwhile": (Meanwhile, "meanwhile")}
         for line in text.splitlines():
-            word, *rest = line.split()
-            numbers = list(map(int, rest))
+            word, _, rest = line.partition(" ")
+            numbers = list(map(int, rest.split()))
             if word == "wait":
-                rows.waits.append(Wait(*numbers))
+                rows.waits.append(Wait(numbers))
             elif word in parts:
                 kind, name = parts[word]
-                getattr(rows.waits[-1], name).append(kind(*numbers[1:]))
+                getattr(rows.waits[-1], name).append(kind._make(numbers[1:]))
             elif word in kinds:
                 kind, into = kinds[word]
-                into.append(kind(*numbers))
+                into.append(kind._make(numbers))
             elif word == "deadlock":
                 rows.deadlocks.append(numbers)
             else:

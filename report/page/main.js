@@ -315,8 +315,8 @@ function listenToPointers() {
     if (dragged) return
     pointAt(event)
     if (!pointed) return
-    focused = pointed
     chooseBar(pointed.bar)
+    focused = pointed
     redraw()
   })
   box.addEventListener('scroll', redraw)
