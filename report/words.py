@@ -8,9 +8,12 @@ def duration(nanoseconds):
     """Returns a time with three digits that count, as '17.1 ms'."""
     for size, unit in UNITS:
         if nanoseconds * 2000 >= size * 1999:
-            value = nanoseconds / size
-            digits = 2 if value < 9.995 else 1 if value < 99.95 else 0
-            return f"{value:,.{digits}f} {unit}"
+            digits = 2 if nanoseconds * 1000 < size * 9995 else (
+                1 if nanoseconds * 100 < size * 9995 else 0)
+            # A half is rounded up, as in the page.
+            value = (2 * nanoseconds * 10**digits + size) // (2 * size)
+            whole, part = divmod(value, 10**digits)
+            return f"{whole:,}{f'.{part:0{digits}}' if digits else ''} {unit}"
     return f"{nanoseconds} ns"
 
 

@@ -69,6 +69,7 @@ def same_words():
     if not shutil.which("node"):
         return skip("the words of the page", "node is missing")
     times = [0, 1, 999, 1_000, 9_994, 9_995, 9_996, 99_949, 99_950, 999_499, 999_500, 10**6, 10**9]
+    times += [unit * half for unit in (1, 1_000, 10**6) for half in (1_005, 1_015, 12_050, 830_500)]
     times += [at**5 * 7 for at in range(1, 400)] + [10**exponent - 5 for exponent in range(1, 16)]
     parts = [[f"t{at}", time] for at, time in enumerate(times[:9])]
     script = f"""const text = require('fs').readFileSync({str(PAGE / 'words.js')!r}, 'utf8')

@@ -5,7 +5,7 @@ import { count, duration, made, moment, shares } from './words.js'
 const TITLES = {
   deadlock: it => it.lanes.length > 1 ? `Deadlock of ${it.lanes.length} threads` : `Deadlock of ${it.who}`,
   late: it => `${it.who} held up by ${it.by}`,
-  ran: it => `${it.who} ran at a lower level`,
+  ran: it => `${it.who} ran at another level`,
   stalled: it => `${it.who} waited for ${it.by}, which waited for something else`,
   look: it => `${it.who} waited for ${it.what}`,
   orders: it => `${it.what} can deadlock`,

@@ -12,6 +12,7 @@ import { count, duration, made, moment } from './words.js'
 const $ = id => document.getElementById(id)
 const MOST_LANES = 24       // that are shown at first, but for those of findings
 const MOST_FIRST = 8, MOST_RAN = 3  // lanes of a finding, and of who ran meanwhile, that come first
+const NARROW_LANE = 44      // pixels of a lane on a telephone: its name has two lines
 const FOLLOW = .12          // of the view by which the arrow keys move it
 
 const isNarrow = () => innerWidth <= 820
@@ -88,7 +89,7 @@ function fold() {
 
 /** Places the lanes in the room that there is, those of the chosen wait first. */
 function place() {
-  const room = isNarrow() ? 0 : $('lanes').clientHeight - AXIS - 8, first = firstLanes()
+  const room = isNarrow() ? NARROW_LANE * shownLanes.length : $('lanes').clientHeight - AXIS - 8, first = firstLanes()
   const others = shownLanes.filter(lane => !first.includes(lane))
   layout = new Layout([...first, ...others], first, recording.hasStays, room)
   drawNames()
