@@ -1,5 +1,6 @@
 """The arguments of pim-report, and what it does."""
 import argparse
+import gc
 import os
 import pathlib
 import sys
@@ -152,6 +153,7 @@ def answer(words):
 
 
 def main():
+    gc.disable()  # what is read is kept: looking for garbage would take a third of the time
     try:
         status = answer(sys.argv[1:])
         sys.stdout.flush()

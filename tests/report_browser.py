@@ -12,28 +12,30 @@ from recording import Recording
 from rows_text import Rows
 from words import duration, shares
 
-PERIODS = 13_000  # of five facts each
+PERIODS, FACTS = 5_000, 13  # and the facts of each
 PAGE = ROOT / "report/page"
 
 
 def large(periods=PERIODS):
-    """Returns facts of two threads that lock a NONE mutex again and again, and their rows.
+    """Returns facts of two threads that lock two mutexes again and again, and their rows.
 
     The rows of so many facts are written here: the plain implementation takes too long.
     """
-    facts = ["facts 1", "thread 1 30 high", "thread 2 10 low", "mutex 1 none lock@lock.c:4"]
-    rows, gone = [], 0
+    facts = ["facts 1", "thread 1 30 high", "thread 2 10 low", "mutex 1 none lock@lock.c:4",
+             "mutex 2 inherit other@lock.c:5"]
+    rows, gone, first = [], 0, len(facts) + 1
     for at in range(periods):
-        begin, line = at * 10_000, 5 + 5 * at
-        lasted = 1_000 + 7 * (at * 37 % 613)
+        begin, line, lasted = at * 10_000, first + FACTS * at, 1_000 + 7 * (at * 37 % 613)
         facts += [f"{begin} 2 granted 1 low.c:{at % 9}", f"{begin + 500} 1 waits 1 high.c:{at % 7}",
                   f"{begin + 500 + lasted} 2 released 1", f"{begin + 500 + lasted} 1 granted 1",
-                  f"{begin + 9_000} 1 released 1"]
+                  f"{begin + 8_000} 1 released 1"]
+        facts += [f"{begin + 8_000 + 100 * one} 1 {what} 2 high.c:{70 + one}"
+                  for one in range(4) for what in ("granted", "released")]
         rows.append(f"wait {line + 1} {line + 3} 1 1 {begin + 500} {lasted} 30 30 2 10 {line}"
                     f" {lasted} {lasted} 0")
         rows.append(f"inverted {line + 1} 1 2 10 {lasted}")
-        gone = begin + 9_000
-    rows.append(f"end {4 + 5 * periods} {gone} {periods} {periods} 0")
+        gone = begin + 8_300
+    rows.append(f"end {len(facts)} {gone} {periods} {periods} 0")
     return ("\n".join(facts) + "\n").encode(), "\n".join(rows) + "\n"
 
 
@@ -69,13 +71,15 @@ def same_words():
     if not shutil.which("node"):
         return skip("the words of the page", "node is missing")
     times = [0, 1, 999, 1_000, 9_994, 9_995, 9_996, 99_949, 99_950, 999_499, 999_500, 10**6, 10**9]
-    times += [unit * half for unit in (1, 1_000, 10**6) for half in (1_005, 1_015, 12_050, 830_500)]
+    halves = 1_005, 1_015, 12_050, 830_500
+    times += [unit * half for unit in (1, 1_000, 10**6) for half in halves]
     times += [at**5 * 7 for at in range(1, 400)] + [10**exponent - 5 for exponent in range(1, 16)]
     parts = [[f"t{at}", time] for at, time in enumerate(times[:9])]
     script = f"""const text = require('fs').readFileSync({str(PAGE / 'words.js')!r}, 'utf8')
 import('data:text/javascript,' + encodeURIComponent(text)).then(({{ duration, shares }}) => {{
   const parts = {json.dumps(parts)}
-  console.log(JSON.stringify([{json.dumps(times)}.map(duration), [1, 2, 9].map(n => shares(parts, n))]))
+  const said = {json.dumps(times)}.map(duration)
+  console.log(JSON.stringify([said, [1, 2, 9].map(n => shares(parts, n))]))
 }})"""
     _, out, err = answer(["node", "-e", script])
     wanted = [[duration(time) for time in times], [shares(parts, most) for most in (1, 2, 9)]]

@@ -4,13 +4,16 @@ import html
 import json
 import re
 import zlib
-from collections import Counter
+from collections import Counter, defaultdict
 
 from checks import ROOT, check
 from html_page import page_of
 from json_report import json_of
+from lines import line_of, lines_of
+from stretches import Stretches
 from terminal import Terminal
 from words import duration
+from world import World
 
 TIME = r"([\d.,]+ (?:s|ms|us|ns))"
 PAGE = (ROOT / "docs/REPORT.md").read_text()
@@ -280,3 +283,39 @@ def hostile(found):
     is_kept = data["threads"][0]["name"] == "<!--<script>" and data["title"] == "<b>&'\""
     check("names like tags", None if is_kept and "<!--" not in page and "<b>" not in page.partition(
         "<main")[0].replace("<b>&lt;b&gt;", "") and script else "they are parts of the page")
+
+
+def times_of(changes, first, ended):
+    """Returns for how long each value was there, by (time, value) in order, and the first value."""
+    found, begin, had = Counter(), 0, first
+    for time, value in [*changes, (ended, None)]:
+        found[had] += time - begin
+        begin, had = time, value
+    return +found
+
+
+def stretches(found):
+    """By the plain definitions threads got as much, and were on a CPU as long, as the lanes say."""
+    wrong = []
+    for seed, (text, one, _) in enumerate(found):
+        gets, on = defaultdict(Counter), Counter()
+        world = World()
+        for line in map(line_of, lines_of(text)[1:]):
+            stretch = world.time_passes(line)
+            for thread in world.level:
+                gets[thread][world.gets(thread), world.level[thread]] += stretch
+                on[thread] += stretch * world.is_on(thread)
+            world.apply(line)
+        shown = Stretches(one.facts)
+        for thread, declared in one.facts.threads.items():
+            column = shown.gets.get(thread, [])
+            changes = [(column[at], tuple(column[at + 1:at + 3]))
+                       for at in range(0, len(column), 3)]
+            got = times_of(changes, (declared.level,) * 2, world.clock)
+            stays = shown.stays.get(thread, [])
+            time = sum(stays[1::2]) - sum(stays[::2])
+            lacks = world.clock - sum(gets[thread].values())
+            gets[thread][(declared.level,) * 2] += lacks  # before it was declared
+            wrong += [] if got == +gets[thread] else [f"{seed}: what {thread} gets"]
+            wrong += [] if time == on[thread] else [f"{seed}: when {thread} is on a CPU"]
+    check("what threads get, and when they have a CPU", ", ".join(wrong[:5]))
