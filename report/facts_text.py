@@ -4,7 +4,7 @@
 when a row names them. It judges nothing: pim-findings has said that the text is valid.
 """
 import re
-from bisect import bisect_right
+from bisect import bisect_left, bisect_right
 from collections import namedtuple
 
 Thread = namedtuple("Thread", "number level name")
@@ -15,6 +15,7 @@ Lost = namedtuple("Lost", "line time count")
 IS_PLACE = re.compile(r".*(:\d+|\+0x[0-9a-f]+)(\([^()]*\))?$|0x[0-9a-f]+$")
 # After how many words a line of this kind has its places.
 WORDS_BEFORE = {b"ceiling": 5, b"off": 4}
+OF_OWNERS = [b"granted"], [b"took"], [b"released"]
 
 
 def last_of(changes, line, first):
@@ -32,6 +33,7 @@ class Facts:
             self.lines.pop()
         self.threads, self.mutexes, self.objects, self.unseen = {}, {}, {}, []
         self.levels, self.ceilings, self.lost, declared = {}, {}, [], 0
+        self.owners = None
         for word, declare in (("thread", self.thread), ("mutex", self.mutex),
                               ("object", self.object), ("unseen", self.is_unseen)):
             for _, line in self.lines_with(f"\n{word} ".encode()):
@@ -140,18 +142,37 @@ class Facts:
             return words[4].decode() if len(words) > 4 else ""
         return next(iter(self.places(line)), "")
 
-    def owner(self, mutex, grant, line):
-        """Returns who owns a mutex after a line, if it came to own it at an earlier one, the grant.
+    # ---- owners
 
-        Returns 0 if nobody does.
-        """
-        number, owner, times = str(mutex).encode(), 0, 0
-        for fact in self.lines[grant - 1:line]:
-            words = fact.split(b" ", 4)
-            if len(words) < 4 or words[3] != number:
+    def read_owners(self):
+        """Returns by mutex the lines that change its owner, and the new owners. 0 is none."""
+        found, times = {}, {}
+        for number, line in enumerate(self.lines, 1):
+            words = line.split(b" ", 4)
+            if words[2:3] not in OF_OWNERS or line[:1] > b"9":
                 continue
-            if words[2] in (b"granted", b"took"):
-                owner, times = int(words[1]), times + 1
-            elif words[2] == b"released":
-                times -= 1
-        return owner if times > 0 else 0
+            mutex, is_lock = int(words[3]), words[2] != b"released"
+            before = times.get(mutex, 0)
+            times[mutex] = before + (1 if is_lock else -1)
+            if before == 0 or times[mutex] == 0:
+                lines, owners = found.setdefault(mutex, ([0], [0]))
+                lines.append(number)
+                owners.append(int(words[1]) if is_lock else 0)
+        return found
+
+    def owners_of(self, mutex):
+        """They are read once, if they are needed."""
+        if self.owners is None:
+            self.owners = self.read_owners()
+        return self.owners.get(mutex, ([0], [0]))
+
+    def owner(self, mutex, line):
+        """Returns the thread that owns a mutex after a line, or 0."""
+        lines, owners = self.owners_of(mutex)
+        return owners[bisect_right(lines, line) - 1]
+
+    def grants(self, mutex, line, until):
+        """Returns the lines after one and before another that gave a mutex an owner."""
+        lines, owners = self.owners_of(mutex)
+        between = range(bisect_right(lines, line), bisect_left(lines, until))
+        return [lines[at] for at in between if owners[at]]

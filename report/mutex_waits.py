@@ -131,20 +131,21 @@ class MutexWaits:
                                 for wait, stall in stalls)
             what = self.names.the_object(worst.worst_stall.object)
             found.why = self.held(worst)
-            found.advice = f"don't wait for {what} while owning {self.held_mutex(worst)}"
+            held = self.held_mutex(worst) or "a mutex"
+            found.advice = f"don't wait for {what} while owning {held}"
             yield found
 
     def held_mutex(self, wait):
-        """Returns the mutex that the runner of a stalled wait held, as far as that is known."""
-        runner = wait.worst_stall.runner
-        way = self.recording.way(wait, runner)
-        return self.names.mutex(way[-1][0] if way else wait.mutex)
+        """Returns the mutex that the runner of a stalled wait held, or an empty text."""
+        way = self.recording.way(wait, wait.worst_stall.runner)
+        return self.names.mutex(way[-1][0]) if way else ""
 
     def held(self, wait):
         """Says what the runner of a stalled wait did."""
-        stall = wait.worst_stall
-        return (f"{self.names.thread(stall.runner)} held {self.held_mutex(wait)} while it waited"
-                f" for {self.names.the_object(stall.object)}")
+        stall, held = wait.worst_stall, self.held_mutex(wait)
+        holding = f" held {held} while it" if held else ""
+        return (f"{self.names.thread(stall.runner)}{holding} waited for"
+                f" {self.names.the_object(stall.object)}")
 
     def bounded(self, waits):
         """Waits for lower threads that a protocol bounds."""

@@ -4,6 +4,10 @@ from names import Names
 from words import place_and_function, without_function
 
 
+# What is looked for of a way: how long it may be, and how many grants and waits are tried.
+LONGEST, MOST_GRANTS, MOST_WAITS = 100, 50, 20
+
+
 class Recording:
     """`rows` are those that are chosen; `all_rows` are all."""
 
@@ -28,32 +32,40 @@ class Recording:
         return f" at {without_function(where) if is_short else where}" if where else ""
 
     def way(self, wait, runner):
-        """Returns the (mutex, owner) that led from a wait to its runner.
+        """Returns the (mutex, owner) that led from a wait to its runner, as they were at some time.
 
-        There is none if that isn't clear. A chain began when the last of its waits began. Which
-        thread owned a mutex then is in the facts.
+        Owners and waits change: the way is looked for after each grant of the mutex, and from there
+        on after each wait. There is none if that takes too many attempts.
         """
-        return self.way_from([wait], runner, wait.line, wait.until)
+        if wait.owner == runner:  # which needs no more lines
+            return [(wait.mutex, runner)]
+        until = wait.until or self.all_rows.lines + 1
+        begins = [wait.line, *self.facts.grants(wait.mutex, wait.line, until)]
+        for line in begins[:MOST_GRANTS]:
+            found = self.way_from([wait], runner, line, until)
+            if found:
+                return found
+        return []
 
     def way_from(self, waits, runner, line, until):
-        """Returns the rest of a way, of which some waits are known. It is there after a line."""
-        owners = [(wait.mutex, self.owner_at(wait, line)) for wait in waits]
+        """Returns the way from some waits on, which last from after a line to before another."""
+        owners = [(wait.mutex, self.facts.owner(wait.mutex, line)) for wait in waits]
         last, threads = owners[-1][1], [wait.thread for wait in waits]
         if [owner for _, owner in owners[:-1]] != threads[1:] or last in threads:
             return []
         if last == runner:
             return owners
-        for wait in self.waits_of.get(last, ()):
-            begin = max(line, wait.line)
-            end = min(one or self.all_rows.lines + 1 for one in (wait.until, until))
-            if begin < end:
-                found = self.way_from([*waits, wait], runner, begin, end)
-                if found:
-                    return found
+        if len(waits) == LONGEST:
+            return []
+        for wait in self.waits_between(last, line, until):
+            end = min(until, wait.until or until)
+            found = self.way_from([*waits, wait], runner, max(line, wait.line), end)
+            if found:
+                return found
         return []
 
-    def owner_at(self, wait, line):
-        """Returns who owns the mutex of a wait after a line, or 0."""
-        if line == wait.line or not wait.taken:
-            return wait.owner
-        return self.facts.owner(wait.mutex, wait.taken, line)
+    def waits_between(self, thread, line, until):
+        """Returns the longest waits of a thread that are there at some line of these."""
+        found = [wait for wait in self.waits_of.get(thread, ())
+                 if wait.line < until and (not wait.until or wait.until > line)]
+        return sorted(found, key=lambda wait: -wait.lasted)[:MOST_WAITS]

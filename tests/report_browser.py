@@ -3,6 +3,7 @@ import json
 import re
 import shutil
 
+import pack
 from checks import ROOT, answer, check, difference, skip
 from facts_text import Facts
 from findings import Findings
@@ -44,8 +45,11 @@ def write_pages(folder, suite, found_in):
     for file in [*sorted(suite.glob("*.facts")), None]:
         found = found_in(file.read_bytes() if file else b"facts 1\n")[0]
         write_page(folder, file.stem if file else "nothing", found)
-    facts, rows = large()
-    write_page(folder, "large", Findings(Recording(Facts(facts), Rows.read(rows))))
+    for name, periods, most in (("large", PERIODS, pack.MOST_ITEMS), ("windows", 400, 1_000)):
+        facts, rows = large(periods)
+        kept, pack.MOST_ITEMS = pack.MOST_ITEMS, most
+        write_page(folder, name, Findings(Recording(Facts(facts), Rows.read(rows))))
+        pack.MOST_ITEMS = kept
 
 
 def write_page(folder, name, found):

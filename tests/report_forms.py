@@ -6,6 +6,7 @@ import re
 import zlib
 from collections import Counter, defaultdict
 
+import pack
 from checks import ROOT, check
 from html_page import page_of
 from json_report import json_of
@@ -67,12 +68,22 @@ def rows_again(value):
     yield ["end", *(one[key] for key in ("lines", "lasted", "waits", "inverted", "deadlocks"))]
 
 
+def placed(found):
+    """Yields the rows of JSON with the keys of places, and what these should be."""
+    value = json.loads(json_of(found))
+    for name in ("waits", "blocked", "sections", "nests"):
+        for row in value[name]:
+            for key, line in (("at", "line"), ("taken_at", "taken"), ("ended_at", "until")):
+                yield row, key, list(found.facts.places(row.get(line, 0)))
+
+
 def json_rows(found):
-    """The rows can be read again from the JSON."""
+    """The rows can be read again from the JSON, with the places of their lines."""
     wrong = []
     for seed, (_, one, out) in enumerate(found):
         again = [" ".join(map(str, row)) for row in rows_again(json.loads(json_of(one)))]
-        if sorted(again) != sorted(out.splitlines()):
+        is_placed = all(row.get(key, places) == places for row, key, places in placed(one))
+        if sorted(again) != sorted(out.splitlines()) or not is_placed:
             wrong.append(str(seed))
     check("the JSON has all rows", ", ".join(wrong[:5]))
 
@@ -112,6 +123,7 @@ class Packed:
 
     def __init__(self, data):
         self.bytes, self.at = zlib.decompress(base64.b64decode(data["packed"])), 0
+        self.shares = []  # by lane of owning and of being on a CPU
         lanes = [self.lane(data) for _ in data["threads"]]
         columns = zip(*lanes) if lanes else [()] * 6
         self.waits, self.blocked, self.owns, self.stays, self.gets, self.ran = columns
@@ -146,7 +158,7 @@ class Packed:
             found[kind % 3].append((at, lasted, read()))
         others = [self.ascending(rest) for rest in (1, 2, 3)]
         if data["windows"] is not None:
-            self.numbers(2 * data["columns"])
+            self.shares.append([self.numbers(data["columns"]) for _ in range(2)])
         owns, waits, blocked = found
         return (waits, blocked, owns, *others)
 
@@ -319,3 +331,78 @@ def stretches(found):
             wrong += [] if got == +gets[thread] else [f"{seed}: what {thread} gets"]
             wrong += [] if time == on[thread] else [f"{seed}: when {thread} is on a CPU"]
     check("what threads get, and when they have a CPU", ", ".join(wrong[:5]))
+
+
+def plain_bound(value, thread):
+    """Returns the bounds of a thread as docs/BLOCKING.md defines them, with *used* of sections."""
+    number, level, used = thread["number"], thread["highest"], Counter()
+    for one in value["sections"]:
+        used[one["thread"], one["mutex"], one["level"]] = one["used"]
+    for one in value["waits"]:
+        used[one["thread"], one["mutex"], one["level"]] += 0
+    at_level = {mutex for other, mutex, at in used if other == number or at >= level}
+    reached = set(at_level)
+    for _ in value["nests"]:
+        reached |= {nest["inner"] for nest in value["nests"] if nest["outer"] in reached}
+    threads, mutexes, protect = Counter(), Counter(), 0
+    for (other, mutex, at), time in used.items():
+        if other != number and at < level and mutex in reached:
+            threads[other], mutexes[mutex] = max(threads[other], time), max(mutexes[mutex], time)
+            protect = max(protect, time * (mutex in at_level))
+    waited = max((one["lower"] for one in value["waits"] if one["thread"] == number), default=0)
+    inherit = min(sum(threads.values()), sum(mutexes.values()))
+    return {"thread": number, "level": level, "inherit": inherit, "protect": protect,
+            "waited": waited}
+
+
+def bounds(found):
+    """The bounds are those of the definitions, for real-time threads that can be blocked."""
+    wrong = []
+    for at, one in enumerate(found):
+        value = json.loads(json_of(one))
+        wanted = [plain_bound(value, thread) for thread in value["threads"]
+                  if 1 <= thread["highest"] <= 99]
+        wanted = [bound for bound in wanted if bound["inherit"]]
+        if sorted(value["bounds"], key=str) != sorted(wanted, key=str):
+            wrong.append(str(at))
+    check("the bounds are those of docs/BLOCKING.md", ", ".join(wrong[:5]))
+
+
+def is_in(windows, begin, end):
+    return any(begin <= until and end >= since for since, until in windows)
+
+
+def shares_wanted(items, data):
+    """Returns the share of each column that (begin, end) fill, of 63 parts."""
+    wide, found = max(1, -(-data["ended"] // data["columns"])), [0] * data["columns"]
+    for at in range(min(data["columns"], data["ended"] // wide + 1)):
+        time = sum(max(0, min(end, (at + 1) * wide) - max(begin, at * wide))
+                   for begin, end in items)
+        found[at] = min(63, -(-63 * time // wide))
+    return found
+
+
+def windows(found):
+    """A page that can't keep all has all waits, what is near the worst of them, and shares."""
+    wrong, most = [], pack.MOST_ITEMS
+    pack.MOST_ITEMS = 1
+    for seed, (_, one, _) in enumerate(found[:30]):
+        if not one.all or one.recording.all_rows.ended < 9:
+            continue
+        data, value = data_of(page_of("title", one)), json.loads(json_of(one))
+        packed, every = Packed(data), Stretches(one.facts)
+        if data["windows"] is None:
+            continue
+        threads = {one["called"]: one["number"] for one in value["threads"]}
+        same = sorted(waits_of(packed, data, value)) == sorted(waits_wanted(value))
+        for at, lane in enumerate(data["threads"]):
+            column = every.owns.get(threads[lane["name"]], [])
+            owns = [tuple(column[at:at + 2]) for at in range(0, len(column), 4)]
+            kept = {(begin, begin + lasted) for begin, lasted, _ in packed.owns[at]}
+            inside = {own for own in owns if is_in(data["windows"], *own)}
+            within = {own for own in owns if is_in(data["windows"], own[0] + 1, own[1] - 1)}
+            same &= within <= kept <= inside
+            same &= shares_wanted(owns, data) == packed.shares[at][0]
+        wrong += [] if same else [str(seed)]
+    pack.MOST_ITEMS = most
+    check("a page of windows", ", ".join(wrong))

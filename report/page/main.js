@@ -273,37 +273,43 @@ function leave() {
   $('tip').classList.remove('on')
 }
 
+/** The wheel zooms; with Shift, or across, it moves. */
+function wheeled(event) {
+  const { x } = placeOf(event), unit = event.deltaMode === 1 ? 16 : 1
+  if (x < side && !event.ctrlKey) return
+  event.preventDefault()
+  const across = event.shiftKey ? event.deltaY || event.deltaX : event.deltaX
+  if (Math.abs(across) > Math.abs(event.deltaY) || event.shiftKey) view.move(across * unit / (lanes.width - side))
+  else view.zoom(Math.exp(event.deltaY * unit * (event.ctrlKey ? .008 : .0018)), shareOf(x))
+  leave()
+  redraw()
+}
+
+/** A pointer points, or drags if it is down; two of them pinch. */
+function pointerMoved(event) {
+  const before = pointers.get(event.pointerId), box = $('lanes')
+  if (!before) return pointAt(event)
+  const now = placeOf(event)
+  pointers.set(event.pointerId, now)
+  if (pinch) return pinched()
+  if (!dragged && Math.abs(now.x - before.x) < 4) { pointers.set(event.pointerId, before); return }
+  if (!dragged) box.setPointerCapture(event.pointerId)
+  dragged = true
+  box.classList.add('dragged')
+  leave()
+  view.move((before.x - now.x) / (lanes.width - side))
+  redraw()
+}
+
 function listenToPointers() {
   const box = $('lanes')
-  box.addEventListener('wheel', event => {
-    const { x } = placeOf(event), unit = event.deltaMode === 1 ? 16 : 1
-    if (x < side && !event.ctrlKey) return
-    event.preventDefault()
-    const across = event.shiftKey ? event.deltaY || event.deltaX : event.deltaX
-    if (Math.abs(across) > Math.abs(event.deltaY) || event.shiftKey) view.move(across * unit / (lanes.width - side))
-    else view.zoom(Math.exp(event.deltaY * unit * (event.ctrlKey ? .008 : .0018)), shareOf(x))
-    leave()
-    redraw()
-  }, { passive: false })
+  box.addEventListener('wheel', wheeled, { passive: false })
   box.addEventListener('pointerdown', event => {
     pointers.set(event.pointerId, placeOf(event))
     dragged = false
     pinch = pointers.size === 2 ? pinchOf() : null
   })
-  box.addEventListener('pointermove', event => {
-    const before = pointers.get(event.pointerId)
-    if (!before) return pointAt(event)
-    const now = placeOf(event)
-    pointers.set(event.pointerId, now)
-    if (pinch) return pinched()
-    if (!dragged && Math.abs(now.x - before.x) < 4) { pointers.set(event.pointerId, before); return }
-    if (!dragged) box.setPointerCapture(event.pointerId)
-    dragged = true
-    box.classList.add('dragged')
-    leave()
-    view.move((before.x - now.x) / (lanes.width - side))
-    redraw()
-  })
+  box.addEventListener('pointermove', pointerMoved)
   for (const name of ['pointerup', 'pointercancel']) {
     box.addEventListener(name, event => {
       pointers.delete(event.pointerId)
