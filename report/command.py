@@ -3,6 +3,7 @@ import argparse
 import gc
 import os
 import pathlib
+import signal
 import sys
 
 from choice import Unknown
@@ -93,12 +94,13 @@ def read(given):
     """Returns the bytes of the facts."""
     if given.recording:
         return facts_of(given.recording, given.converter)
-    if given.facts == "-":
-        return sys.stdin.buffer.read()
     try:
+        if given.facts == "-":
+            return sys.stdin.buffer.read()
         return pathlib.Path(given.facts).read_bytes()
     except OSError as fault:
-        raise Fault(f"{given.facts}: {fault.strerror}") from fault
+        name = "standard input" if given.facts == "-" else given.facts
+        raise Fault(f"{name}: {fault.strerror}") from fault
 
 
 def report(given):
@@ -153,6 +155,7 @@ def answer(words):
 
 
 def main():
+    signal.signal(signal.SIGINT, signal.SIG_DFL)
     gc.disable()  # what is read is kept: looking for garbage would take a third of the time
     try:
         status = answer(sys.argv[1:])
@@ -161,8 +164,10 @@ def main():
         status = 2
         if str(fault):
             print(f"pim-report: {fault}", file=sys.stderr)
-    except BrokenPipeError:
-        # Nobody reads what is left to write.
+    except OSError as fault:
+        # What is left to write goes nowhere. If nobody reads, that isn't worth a line.
         os.dup2(os.open(os.devnull, os.O_WRONLY), sys.stdout.fileno())
+        if not isinstance(fault, BrokenPipeError):
+            print(f"pim-report: standard output: {fault.strerror}", file=sys.stderr)
         status = 2
     sys.exit(status)

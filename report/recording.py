@@ -34,32 +34,37 @@ class Recording:
     def way(self, wait, runner):
         """Returns the (mutex, owner) that led from a wait to its runner, as they were at some time.
 
-        Owners and waits change: the way is looked for after each grant of the mutex, and from there
-        on after each wait. There is none if that takes too many attempts.
+        There is none if that takes too many attempts.
         """
         if wait.owner == runner:  # which needs no more lines
             return [(wait.mutex, runner)]
-        until = wait.until or self.all_rows.lines + 1
-        begins = [wait.line, *self.facts.grants(wait.mutex, wait.line, until)]
-        for line in begins[:MOST_GRANTS]:
-            found = self.way_from([wait], runner, line, until)
+        return self.way_from([wait], runner, wait.line, wait.until or self.all_rows.lines + 1)
+
+    def way_from(self, waits, runner, line, until):
+        """Returns the way from some waits on, which last from after a line to before another.
+
+        Owners change: it is looked for then, and after each grant of the last mutex.
+        """
+        grants = self.facts.grants(waits[-1].mutex, line, until)
+        for begin in [line, *grants][:MOST_GRANTS]:
+            owners = [(wait.mutex, self.facts.owner(wait.mutex, begin)) for wait in waits]
+            last, threads = owners[-1][1], [wait.thread for wait in waits]
+            is_way = [owner for _, owner in owners[:-1]] == threads[1:] and last not in threads
+            if is_way and last == runner:
+                return owners
+            found = is_way and self.way_beyond(waits, last, runner, (begin, until))
             if found:
                 return found
         return []
 
-    def way_from(self, waits, runner, line, until):
-        """Returns the way from some waits on, which last from after a line to before another."""
-        owners = [(wait.mutex, self.facts.owner(wait.mutex, line)) for wait in waits]
-        last, threads = owners[-1][1], [wait.thread for wait in waits]
-        if [owner for _, owner in owners[:-1]] != threads[1:] or last in threads:
+    def way_beyond(self, waits, last, runner, lines):
+        """Returns the way from some waits on, if the last owner waits between two lines."""
+        begin, until = lines
+        if not last or len(waits) == LONGEST:
             return []
-        if last == runner:
-            return owners
-        if len(waits) == LONGEST:
-            return []
-        for wait in self.waits_between(last, line, until):
+        for wait in self.waits_between(last, begin, until):
             end = min(until, wait.until or until)
-            found = self.way_from([*waits, wait], runner, max(line, wait.line), end)
+            found = self.way_from([*waits, wait], runner, max(begin, wait.line), end)
             if found:
                 return found
         return []

@@ -406,3 +406,33 @@ def windows(found):
         wrong += [] if same else [str(seed)]
     pack.MOST_ITEMS = most
     check("a page of windows", ", ".join(wrong))
+
+
+def ways_in(text):
+    """Returns by the line of a wait the ways, of (mutex, owner), that ever lead from it."""
+    found, begun, world = defaultdict(set), {}, World()
+    for number, line in enumerate(map(line_of, lines_of(text)[1:]), 2):
+        world.apply(line)
+        if line.what == "waits":
+            begun[line.thread] = number
+        for thread in world.awaits:
+            way, one = [], thread
+            while world.awaits.get(one) in world.owner and len(way) < 99:
+                way.append((world.awaits[one], world.owner[world.awaits[one]]))
+                one = way[-1][1]
+            found[begun[thread]].add(tuple(way))
+    return found
+
+
+def ways(found):
+    """The way from a wait to each of its runners was there, as the plain definitions say."""
+    wrong, chains = [], 0
+    for seed, (text, one, _) in enumerate(found):
+        there = ways_in(text)
+        for wait in one.rows.waits:
+            for runner in {part.runner for part in (*wait.parts, *wait.stalls)}:
+                way = tuple(one.recording.way(wait, runner))
+                chains += len(way) > 1
+                is_there = way in there[wait.line] and way[-1:] and way[-1][1] == runner
+                wrong += [] if is_there else [f"{seed}: line {wait.line}"]
+    check("ways to runners", ", ".join(wrong[:5]) or (None if chains > 9 else "no chains"))
