@@ -282,7 +282,7 @@ def network(page):
     found = re.findall(r"https?:|//\w+\.|\bsrc=|@import|url\(|fetch\(|XMLHttp|WebSocket|sendBeacon"
                        r"|EventSource|import\(|<link(?! rel=\"icon\" href=\"data:,\")", page)
     check("the page asks for nothing", ", ".join(found))
-    policy = re.search(r'Content-Security-Policy" content="([^"]*)"', page)
+    policy = re.search(r'Content-Security-Policy"\s+content="([^"]*)"', page)
     check("its policy forbids it", None if policy and "default-src 'none'" in policy[1] else "no")
     size = len(page.encode()) - len(data_of(page)["packed"])
     check("it has less than 150 KB beside its data", None if size < 150_000 else str(size))

@@ -179,7 +179,8 @@ async function pointing() {
     'control (90) waits for log_lock (INHERIT)', '8.90 ms from 0.002100 s at log.c:44 (log_write)',
     'owned by logger (10) since 0.001100 s at log.c:44 (log_write)', 'logger waits for disk_lock of storage',
     'held up for 8.40 ms: disk_lock passes too little on', 'meanwhile vision (50) ran for 7.50 ms']))
-  check('the tip says the same', (await all('#tip.on > *', 'it.textContent')).join('; ') === said ? null : 'it does not')
+  const tip = await all('#tip.on > *', 'it.textContent')
+  check('the tip says the same', differs(tip.join('; '), said))
   await page.mouse(x, y, 'mousePressed', 'mouseReleased')
   await frame()
   check('a click focuses', await evaluate("pimReport.focused?.bar.lane.name === 'control'") ? null : 'nothing')
@@ -219,7 +220,8 @@ async function accents(name) {
       const from = Math.max(lanes.side, Math.floor(lanes.x(it.begin)) - 1), y = bars + 24 - lanes.top
       const to = Math.min(lanes.width - 1, Math.ceil(lanes.x(it.end)) + 1), row = it.wait.row * (lanes.bar + 2)
       if (y + row + lanes.bar > lanes.height) continue
-      const { data } = ink.getImageData(from * ratio, (y + row) * ratio, Math.max(1, to - from) * ratio, lanes.bar * ratio)
+      const width = Math.max(1, to - from) * ratio
+      const { data } = ink.getImageData(from * ratio, (y + row) * ratio, width, lanes.bar * ratio)
       const pixels = Array.from({ length: data.length / 4 }, (_, i) => data.slice(4 * i, 4 * i + 3))
       if (!pixels.some(isAccent)) lost.push([lane.name, it.begin])
     }
@@ -243,7 +245,8 @@ async function keys() {
   await pressed('ArrowDown')
   check('an arrow goes to another lane', /^(control|vision)/.test(await said()) ? await said() : null)
   await pressed('Enter')
-  const [from, to] = await view(), [begin, end] = await evaluate('[pimReport.focused.bar.begin, pimReport.focused.bar.end]')
+  const [from, to] = await view()
+  const [begin, end] = await evaluate('[pimReport.focused.bar.begin, pimReport.focused.bar.end]')
   check('Enter zooms to the bar', from <= begin && end <= to ? null : `${from} to ${to}`)
   await pressed('Escape')
   check('Escape leaves it', await evaluate('pimReport.focused === null') ? null : 'it does not')
@@ -292,7 +295,8 @@ async function table() {
   check('the filter', differs(await cells('what'), ['3 mutexes of pool.c:19 (pool_open)']))
   check('the filter says how many it leaves', differs(await text('shown'), `1 of ${findings.length}`))
   await typed('filter', 'nobody', 'input')
-  check('a filter that leaves nothing', differs(await all('#rows .none', 'it.textContent'), ['Nothing is left by this filter.']))
+  const none = await all('#rows .none', 'it.textContent')
+  check('a filter that leaves nothing', differs(none, ['Nothing is left by this filter.']))
   await typed('filter', '', 'input')
   await typed('kind', 'bounded', 'change')
   check('the kind', differs(await cells('what'), ['mutex 7']))

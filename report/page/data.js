@@ -2,6 +2,8 @@
 
 export const OWN = 0, WAIT = 1, BLOCKED = 2
 
+const inTime = (one, other) => one.begin - other.begin
+
 /** Reads numbers of 7 bits a byte. */
 class Reader {
   constructor(bytes) {
@@ -61,7 +63,8 @@ export function above(column, time, from = 0, to = column.length) {
 function stretches(of) {
   const sum = new Float64Array(of.length + 1)
   of.forEach((it, i) => { sum[i + 1] = sum[i] + it.end - it.begin })
-  return { begin: Float64Array.from(of, it => it.begin), end: Float64Array.from(of, it => it.end), sum, of }
+  const column = key => Float64Array.from(of, it => it[key])
+  return { begin: column('begin'), end: column('end'), sum, of }
 }
 
 /** A thread: its bars in rows, when it was held up, when it ran, and what it got. */
@@ -76,14 +79,15 @@ class Lane {
     let at = 0
     for (let n = reader.next(); n > 0; n--) {
       at += reader.next()
-      const end = at + reader.next(), code = reader.next(), kind = code % 3, row = Math.floor(code / 3)
-      const bar = { lane: this, kind, begin: at, end, row, what: reader.next(), place: reader.next() }
+      const end = at + reader.next(), code = reader.next(), kind = code % 3
+      const row = Math.floor(code / 3), [what, place] = [reader.next(), reader.next()]
+      const bar = { lane: this, kind, begin: at, end, row, what, place }
       if (kind === WAIT) this.readWait(bar, reader)
       if (kind === BLOCKED) this.readBlocked(bar, reader)
       ;(rows[row] ??= []).push(bar)
     }
     this.rows = rows.map(bars => new Row(bars))
-    this.waits = rows.flat().filter(bar => bar.kind === WAIT).sort((one, other) => one.begin - other.begin)
+    this.waits = rows.flat().filter(bar => bar.kind === WAIT).sort(inTime)
     const late = this.waits.flatMap(wait => wait.late.map(it => ({ ...it, wait })))
     this.late = stretches(late)
     this.cause = stretches([])
@@ -116,7 +120,7 @@ class Lane {
   }
 
   readStays(reader) {
-    const n = reader.next(), [begin, end, sum] = [new Float64Array(n), new Float64Array(n), new Float64Array(n + 1)]
+    const n = reader.next(), [begin, end, sum] = [n, n, n + 1].map(it => new Float64Array(it))
     let at = 0
     for (let i = 0; i < n; i++) {
       begin[i] = at += reader.next()
@@ -126,7 +130,7 @@ class Lane {
     this.stays = { begin, end, sum }
   }
 
-  /** Reads what the thread got, as stretches in which that was above its own level, and its levels. */
+  /** Reads what the thread got, as stretches in which it was above its own level, and its levels. */
   readLevels(reader, ended) {
     const boosts = [], levels = [{ time: 0, level: this.level }]
     let at = 0
@@ -137,7 +141,8 @@ class Lane {
       if (gets > level) boosts.push({ begin: at, end: null, gets, level })
       if (level !== levels[levels.length - 1].level) levels.push({ time: at, level })
     }
-    this.boosts = stretches(boosts.map(it => ({ ...it, end: it.end ?? ended })).filter(it => it.end > it.begin))
+    const closed = boosts.map(it => ({ ...it, end: it.end ?? ended }))
+    this.boosts = stretches(closed.filter(it => it.end > it.begin))
     this.levels = levels
     at = 0
     this.ran = Array.from({ length: reader.next() }, () => {
@@ -186,9 +191,10 @@ export class Recording {
   ownersOf() {
     const found = this.mutexes.map(() => [])
     for (const lane of this.lanes) {
-      for (const row of lane.rows) for (const bar of row.bars) if (bar.kind === OWN) found[bar.what].push(bar)
+      const owns = lane.rows.flatMap(row => row.bars.filter(bar => bar.kind === OWN))
+      for (const bar of owns) found[bar.what].push(bar)
     }
-    for (const bars of found) bars.sort((one, other) => one.begin - other.begin)
+    for (const bars of found) bars.sort(inTime)
     return found
   }
 
@@ -200,7 +206,7 @@ export class Recording {
         this.lanes[it.runner].cause.of.push({ ...it, row })
       }
     }
-    for (const lane of this.lanes) lane.cause = stretches(lane.cause.of.sort((one, other) => one.begin - other.begin))
+    for (const lane of this.lanes) lane.cause = stretches(lane.cause.of.sort(inTime))
   }
 
   /** Returns the bar that owns a mutex at a time, or null. */
@@ -216,7 +222,7 @@ export class Recording {
     return bar && bar.end > time ? bar : null
   }
 
-  /** Returns the owning bars from a wait to its runner, as they are at a time, or to where they come around. */
+  /** Returns the owning bars from a wait to its runner at a time, or to where they come around. */
   wayOf(wait, time) {
     const way = [], seen = new Set()
     for (let it = wait; it && !seen.has(it.lane);) {
@@ -242,7 +248,9 @@ export class Recording {
   }
 
   /** Returns whether single facts of a time are in the page. */
-  isKept(time) { return !this.windows || this.windows.some(([begin, end]) => begin <= time && time <= end) }
+  isKept(time) {
+    return !this.windows || this.windows.some(([begin, end]) => begin <= time && time <= end)
+  }
 
   /** Returns the wait of a spot, or null. */
   barOf(spot) {
@@ -250,6 +258,7 @@ export class Recording {
       const past = above(begin, spot.begin)
       return bars.slice(Math.max(0, past - 8), past)
     })
-    return spot.bar ??= bars.find(bar => bar.begin === spot.begin && bar.end === spot.end && bar.kind !== OWN) ?? null
+    const isIts = bar => bar.begin === spot.begin && bar.end === spot.end && bar.kind !== OWN
+    return spot.bar ??= bars.find(isIts) ?? null
   }
 }
