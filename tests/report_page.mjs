@@ -73,6 +73,9 @@ async function contents(name) {
   const [from, to] = await view()
   check(`${name}: the worst is shown at first`,
     from <= chosen.since && chosen.since + chosen.lasted <= to ? null : `${from} to ${to}`)
+  const called = ({ thread, level }) => `${report.threads.find(it => it.number === thread).called} (${level})`
+  const title = `${called(chosen.who[0])} held up by ${called(chosen.by[0] ?? chosen.who[0])}`
+  if (chosen.kind === 'late') check(`${name}: the title`, differs(await text('finding-title'), title))
   check(`${name}: the finding is said`, (await text('finding')).includes(chosen.why) ? null : await text('finding'))
 }
 

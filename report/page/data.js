@@ -130,7 +130,7 @@ class Lane {
     this.stays = { begin, end, sum }
   }
 
-  /** Reads what the thread got, as stretches in which it was above its own level, and its levels. */
+  /** Reads what the thread got, as stretches in which it was boosted, and its own levels. */
   readLevels(reader, ended) {
     const boosts = [], levels = [{ time: 0, level: this.level }]
     let at = 0

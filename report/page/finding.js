@@ -3,7 +3,7 @@ import { count, duration, made, moment, shares } from './words.js'
 // ---- the chosen finding: who, how long, where, why, who ran meanwhile, what to do
 
 const TITLES = {
-  deadlock: it => it.lanes.length > 1 ? `Deadlock of ${it.lanes.length} threads` : `Deadlock of ${it.who}`,
+  deadlock: ({ lanes, who }) => `Deadlock of ${lanes.length > 1 ? `${lanes.length} threads` : who}`,
   late: it => `${it.who} held up by ${it.by}`,
   ran: it => `${it.who} ran at another level`,
   stalled: it => `${it.who} waited for ${it.by}, which waited for something else`,
@@ -34,16 +34,18 @@ function titleOf(finding, bar, recording) {
   return `${bar.lane.name} (${bar.level}) held up by ${runner.name} (${runner.getsAt(late.begin)})`
 }
 
-/** Returns where the shown wait was, its callers, and where its owner took the mutex or it was ended. */
+/** Returns where the shown wait was, its callers, and where the mutex was taken or it was ended. */
 function placesOf(finding, bar, recording) {
   if (!bar) return finding
-  const [where, ...callers] = recording.places[bar.place], [taken] = recording.places[bar.taken || bar.ended || 0]
+  const [where, ...callers] = recording.places[bar.place]
+  const [taken] = recording.places[bar.taken || bar.ended || 0]
   return { where: where ?? finding.where, callers, taken }
 }
 
 function howLong({ kind, times, worst, total }) {
   if (kind === 'deadlock') return `${duration(worst)}, to the end`
-  return times > 1 ? `${duration(worst)} at worst, ${duration(total)} in ${count(times, 'wait')}` : duration(worst)
+  if (times === 1) return duration(worst)
+  return `${duration(worst)} at worst, ${duration(total)} in ${count(times, 'wait')}`
 }
 
 function whereParts(finding, bar, recording) {
@@ -77,13 +79,15 @@ function saidOf(finding, bar, recording) {
 
 /** Shows a finding, and which of its waits is shown in the lanes. */
 export function drawFinding(recording, finding, nth) {
-  const box = document.getElementById('finding'), spot = finding.spots[nth], bar = spot && recording.barOf(spot)
+  const box = document.getElementById('finding')
+  const spot = finding.spots[nth], bar = spot && recording.barOf(spot)
   box.hidden = false
   box.className = finding.isBad ? 'bad' : ''
   write('finding-title', titleOf(finding, bar, recording))
   const pair = (what, name, ...parts) => [made('dt', '', what), made('dd', name, ...parts)]
   const { advice } = finding, list = box.querySelector('dl')
-  list.replaceChildren(...saidOf(finding, bar, recording).flatMap(([what, parts]) => pair(what, '', ...parts)))
+  const said = saidOf(finding, bar, recording)
+  list.replaceChildren(...said.flatMap(([what, parts]) => pair(what, '', ...parts)))
   if (advice) list.append(...pair('To do', 'do', `${advice[0].toUpperCase()}${advice.slice(1)}.`))
   document.getElementById('steps').hidden = !spot
   if (spot) drawSteps(finding, spot, nth)
@@ -93,7 +97,8 @@ export function drawFinding(recording, finding, nth) {
 function drawSteps(finding, spot, nth) {
   const n = finding.spots.length, all = finding.kind === 'orders' ? n : Math.max(n, finding.times)
   const which = n > 1 ? `${nth + 1} of ${all.toLocaleString('en')}: ` : ''
-  write('spot', `${which}${duration(spot.inverted || spot.end - spot.begin)} from ${moment(spot.begin)}`)
+  const time = duration(spot.inverted || spot.end - spot.begin)
+  write('spot', `${which}${time} from ${moment(spot.begin)}`)
   const [previous, next] = ['previous', 'next'].map(id => document.getElementById(id))
   previous.hidden = next.hidden = n < 2
   previous.disabled = nth === 0

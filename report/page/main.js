@@ -49,7 +49,7 @@ function draw() {
 
 const spotOf = () => chosen?.spots[nth] ?? null
 
-/** Returns by lane which threads ran in place of the runner in the chosen wait, and for how long. */
+/** Returns by lane for how long it ran in place of the runner in the chosen wait. */
 function meanwhileOf() {
   const bar = spotOf() && recording.barOf(spotOf())
   const found = new Map()
@@ -89,13 +89,14 @@ function fold() {
 
 /** Places the lanes in the room that there is, those of the chosen wait first. */
 function place() {
-  const room = isNarrow() ? NARROW_LANE * shownLanes.length : $('lanes').clientHeight - AXIS - 8, first = firstLanes()
+  const first = firstLanes(), high = $('lanes').clientHeight - AXIS - 8
+  const room = isNarrow() ? NARROW_LANE * shownLanes.length : high
   const others = shownLanes.filter(lane => !first.includes(lane))
   layout = new Layout([...first, ...others], first, recording.hasStays, room)
   drawNames()
 }
 
-/** Returns the lanes of the chosen wait: that which waits, the owners', and which ran longest meanwhile. */
+/** Returns the lanes of the chosen wait: what waits, what owns, and what ran longest meanwhile. */
 function firstLanes() {
   const bar = spotOf() && recording.barOf(spotOf())
   if (!bar) {
@@ -105,7 +106,8 @@ function firstLanes() {
   }
   const way = wayOf(null).flatMap(({ from, to }) => [from.lane, to.lane])
   const by = [bar.owner, bar.by].filter(Boolean).map(one => recording.lanes[one - 1])
-  const ran = [...meanwhileOf()].sort((one, other) => other[1] - one[1]).slice(0, MOST_RAN).map(([lane]) => lane)
+  const longest = [...meanwhileOf()].sort((one, other) => other[1] - one[1])
+  const ran = longest.slice(0, MOST_RAN).map(([lane]) => lane)
   const dead = chosen.kind === 'deadlock' ? chosen.lanes.map(index => recording.lanes[index]) : []
   const runners = bar.late?.map(it => recording.lanes[it.runner]) ?? []
   const found = new Set([bar.lane, ...way, ...runners, ...by, ...ran, ...dead])
@@ -116,7 +118,8 @@ function drawNames() {
   const inChosen = new Set(firstLanes().map(lane => lane.index))
   $('names').replaceChildren(...layout.places.map(({ lane, y, bars }) => {
     const levels = lane.top === lane.level ? lane.level : `${lane.level}–${lane.top}`
-    const name = made('div', inChosen.has(lane.index) ? 'in' : '', made('b', '', lane.name), made('span', '', levels))
+    const words = [made('b', '', lane.name), made('span', '', levels)]
+    const name = made('div', inChosen.has(lane.index) ? 'in' : '', ...words)
     name.style.top = `${AXIS + bars + layout.bar / 2 - (isNarrow() ? 14 : 9)}px`
     name.title = lane.name
     return name
@@ -141,7 +144,8 @@ function arrange() {
   place()
   const all = layout.height + AXIS, scroller = $('lanes')
   $('sheet').style.height = isNarrow() ? `${all}px` : `max(100%, ${all}px)`
-  const width = scroller.clientWidth, room = isNarrow() ? Math.min(all, innerHeight * .7) : scroller.clientHeight
+  const width = scroller.clientWidth
+  const room = isNarrow() ? Math.min(all, innerHeight * .7) : scroller.clientHeight
   const height = Math.max(60, room), ratio = ratioOf()
   const isSame = lanes.width === width && lanes.height === height && lanes.ratio === ratio
   if (!isSame) lanes.resize(width, height, ratio)
@@ -156,10 +160,12 @@ function repaint() {
 /** Draws the swatches by the same colours and shapes as the lanes. */
 function drawLegend() {
   const has = {
-    stays: recording.hasStays, windows: !!recording.windows, late: recording.lanes.some(lane => lane.late.of.length),
+    stays: recording.hasStays, windows: !!recording.windows,
+    late: recording.lanes.some(lane => lane.late.of.length),
     boosts: recording.lanes.some(lane => lane.boosts.of.length),
   }
-  for (const it of document.querySelectorAll('#legend [data-needs]')) it.hidden = !has[it.dataset.needs]
+  const needy = document.querySelectorAll('#legend [data-needs]')
+  for (const it of needy) it.hidden = !has[it.dataset.needs]
   for (const canvas of document.querySelectorAll('#legend canvas')) {
     const ratio = ratioOf(), ink = canvas.getContext('2d'), what = canvas.dataset.swatch
     canvas.width = 26 * ratio
@@ -202,7 +208,8 @@ function showSpot() {
 
 /** Shows how a deadlock came about: from the first of its ownerships to the last of its waits. */
 function showDeadlock() {
-  const waits = chosen.spots.map(spot => recording.barOf(spot)), last = Math.max(...waits.map(it => it.begin))
+  const waits = chosen.spots.map(spot => recording.barOf(spot))
+  const last = Math.max(...waits.map(it => it.begin))
   const owners = waits.map(it => recording.ownerAt(it.what, last)).filter(Boolean)
   view.showAround(Math.min(last, ...owners.map(it => it.begin)), last)
 }
@@ -279,7 +286,8 @@ function wheeled(event) {
   if (x < side && !event.ctrlKey) return
   event.preventDefault()
   const across = event.shiftKey ? event.deltaY || event.deltaX : event.deltaX
-  if (Math.abs(across) > Math.abs(event.deltaY) || event.shiftKey) view.move(across * unit / (lanes.width - side))
+  const isAcross = Math.abs(across) > Math.abs(event.deltaY) || event.shiftKey
+  if (isAcross) view.move(across * unit / (lanes.width - side))
   else view.zoom(Math.exp(event.deltaY * unit * (event.ctrlKey ? .008 : .0018)), shareOf(x))
   leave()
   redraw()
@@ -351,13 +359,16 @@ function listenToOverview() {
     view.show(time - view.span / 2, time + view.span / 2)
     redraw()
   }
-  canvas.addEventListener('pointerdown', event => { canvas.setPointerCapture(event.pointerId); go(event) })
+  canvas.addEventListener('pointerdown', event => {
+    canvas.setPointerCapture(event.pointerId)
+    go(event)
+  })
   canvas.addEventListener('pointermove', event => { if (event.buttons) go(event) })
 }
 
 // ---- the keys
 
-/** Returns the bar next to the focused one in its lane, which is wide enough to be seen or waits. */
+/** Returns the bar next to the focused one in its lane that waits, or is wide enough to be seen. */
 function neighbour(by) {
   const { bar } = focused, least = 3 * lanes.perPixel
   const bars = bar.lane.rows.flatMap(row => {
@@ -372,9 +383,10 @@ function neighbour(by) {
 function nearest(lane, time) {
   let best = null
   const far = it => Math.max(it.begin - time, time - it.end, 0)
+  const isNearer = it => !best || far(it) < far(best)
   for (const row of lane.rows) {
     const at = above(row.begin, time)
-    for (const it of row.bars.slice(Math.max(0, at - 2), at + 2)) if (!best || far(it) < far(best)) best = it
+    for (const it of row.bars.slice(Math.max(0, at - 2), at + 2)) if (isNearer(it)) best = it
   }
   return best
 }
@@ -403,16 +415,20 @@ function walk(across, down) {
 const KEYS = {
   '+': () => view.zoom(.7), '=': () => view.zoom(.7), w: () => view.zoom(.7),
   '-': () => view.zoom(1 / .7), s: () => view.zoom(1 / .7),
-  a: () => view.move(-FOLLOW), d: () => view.move(FOLLOW), 0: () => view.whole(), Home: () => view.whole(),
+  a: () => view.move(-FOLLOW), d: () => view.move(FOLLOW),
+  0: () => view.whole(), Home: () => view.whole(),
 }
 const MOVES = { ArrowLeft: [-1, 0], ArrowRight: [1, 0], ArrowUp: [0, -1], ArrowDown: [0, 1] }
 
+const showFocused = () => view.showAround(focused.bar.begin, focused.bar.end)
+
 function keyPressed(event) {
-  if (event.ctrlKey || event.metaKey || event.altKey || event.target.matches('input, select')) return
+  const isOther = event.ctrlKey || event.metaKey || event.altKey
+  if (isOther || event.target.matches('input, select')) return
   const isInLanes = event.target === $('lanes'), move = isInLanes && MOVES[event.key]
   if (move && event.shiftKey) view.move(move[0] * FOLLOW)
   else if (move) walk(...move)
-  else if (isInLanes && event.key === 'Enter' && focused) view.showAround(focused.bar.begin, focused.bar.end)
+  else if (isInLanes && event.key === 'Enter' && focused) showFocused()
   else if (isInLanes && event.key === 'Escape') { focused = null; leave(); say(null) }
   else if (event.key === 'n') step(1)
   else if (event.key === 'p') step(-1)
@@ -427,22 +443,25 @@ function keyPressed(event) {
 
 function drawExtra() {
   const cell = time => made('td', 'number', time ? duration(time) : '–')
-  const table = (about, heads, rows) => !rows.length ? [] : [made('p', '', about), made('table', '',
-    made('thead', '', made('tr', '', ...heads.map(head => made('th', 'number', head)))), made('tbody', '', ...rows))]
+  const headOf = heads => made('tr', '', ...heads.map(head => made('th', 'number', head)))
+  const table = (about, heads, rows) => !rows.length ? [] : [made('p', '', about),
+    made('table', '', made('thead', '', headOf(heads)), made('tbody', '', ...rows))]
   const owned = recording.owned.map(([mutex, thread, time, where]) =>
     made('tr', '', cell(time), made('td', '', `${mutex} by ${thread}`), made('td', 'place', where)))
   const bounds = recording.bounds.map(([thread, ...times]) =>
     made('tr', '', ...times.map(cell), made('td', '', thread)))
   const parts = recording.unseen.map(line => made('li', '', line))
   $('extra').replaceChildren(
-    ...table('The longest ownership of each mutex that was waited for, with all interruptions:', [], owned),
-    ...table('For how long lower threads can block, at most, on one CPU, if sections take no longer than they did:',
+    ...table('The longest ownership of each mutex that was waited for:', [], owned),
+    ...table('Blocking by lower threads, at most, on one CPU, if sections take no longer:',
       ['INHERIT', 'PROTECT', 'waited', ''], bounds),
     made('p', '', 'Not looked at:'), made('ul', '', ...parts))
   if (!recording.windows) return
-  const text = `Of ${recording.facts.toLocaleString('en')} facts, the page has those around the worst waits of each `
-    + `finding: ${count(recording.windows.length, 'window')}, marked below the strip and the axis. Elsewhere the lanes `
-    + 'show which share of the time a thread owned mutexes and had a CPU. All waits are there. --all keeps all facts.'
+  const facts = count(recording.facts, 'fact')
+  const windows = count(recording.windows.length, 'window')
+  const text = 'The page has all waits. Ownerships, and when threads had a CPU, are those around '
+    + `the worst waits of each finding, of ${facts}: ${windows}, marked below the strip and axis. `
+    + 'Elsewhere the lanes show which share of the time they took. --all keeps all.'
   $('extra').prepend(made('p', '', text))
 }
 

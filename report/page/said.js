@@ -11,9 +11,11 @@ export function linesOf(recording, bar, time) {
   const since = `${bar.open ? `${lasts} to the end` : lasts} from ${moment(begin)}${at(bar.place)}`
   if (kind === OWN) return ownLines(recording, bar, since)
   if (kind === WAIT) return waitLines(recording, bar, since, time, at)
-  const by = bar.by ? `${recording.threads[bar.by - 1].name} (${bar.byLevel}) ended it${at(bar.ended)}`
+  const ender = recording.threads[bar.by - 1]
+  const by = bar.by ? `${ender.name} (${bar.byLevel}) ended it${at(bar.ended)}`
     : ['', '', 'its time was over', 'it failed'][bar.how]
-  return [`${lane.name} (${bar.level}) waits: ${recording.objects[bar.what].name}`, since, by].filter(Boolean)
+  const what = recording.objects[bar.what].name
+  return [`${lane.name} (${bar.level}) waits: ${what}`, since, by].filter(Boolean)
 }
 
 const mutexOf = ({ name, protocol }) => `${name} (${protocol.toUpperCase()})`
@@ -21,12 +23,13 @@ const mutexOf = ({ name, protocol }) => `${name} (${protocol.toUpperCase()})`
 /** Returns when a thread held up others in a stretch. Those that began before it are few. */
 function causesOf({ cause }, begin, end) {
   const past = above(cause.begin, end)
-  return cause.of.slice(Math.max(0, past - 500), past).filter(it => it.begin < end && it.end > begin)
+  const near = cause.of.slice(Math.max(0, past - 500), past)
+  return near.filter(it => it.begin < end && it.end > begin)
 }
 
 function ownLines(recording, bar, since) {
-  const { lane, what, begin, end } = bar
-  const lines = [`${lane.name} (${lane.levelAt(begin)}) owns ${mutexOf(recording.mutexes[what])}`, since]
+  const { lane, begin, end } = bar, mutex = mutexOf(recording.mutexes[bar.what])
+  const lines = [`${lane.name} (${lane.levelAt(begin)}) owns ${mutex}`, since]
   const held = causesOf(lane, begin, end)
   let time = 0, counted = begin // stretches may overlap
   for (const it of held) {
@@ -41,18 +44,19 @@ function ownLines(recording, bar, since) {
 }
 
 function waitLines(recording, bar, since, time, at) {
-  const { lane, what, level } = bar
+  const { lane, level } = bar, mutex = mutexOf(recording.mutexes[bar.what])
   const raised = bar.gets > level ? `, raised to ${bar.gets}` : ''
-  const lines = [`${lane.name} (${level}${raised}) waits for ${mutexOf(recording.mutexes[what])}`, since]
-  const within = Math.min(Math.max(time, bar.begin), bar.end - 1), way = recording.wayOf(bar, within)
-  const owner = way[0]?.to
+  const lines = [`${lane.name} (${level}${raised}) waits for ${mutex}`, since]
+  const within = Math.min(Math.max(time, bar.begin), bar.end - 1)
+  const way = recording.wayOf(bar, within), owner = way[0]?.to
+  const asItBegan = name => `owned by ${name} (${bar.ownerLevel}) as it began${at(bar.taken)}`
   if (owner?.begin === null) {
-    lines.push(`owned by ${owner.lane.name} (${bar.ownerLevel}) as it began${at(bar.taken)}`)
+    lines.push(asItBegan(owner.lane.name))
   } else if (owner) {
-    const level = owner.lane.levelAt(within)
-    lines.push(`owned by ${owner.lane.name} (${level}) since ${moment(owner.begin)}${at(owner.place)}`)
+    const name = `${owner.lane.name} (${owner.lane.levelAt(within)})`
+    lines.push(`owned by ${name} since ${moment(owner.begin)}${at(owner.place)}`)
   } else if (bar.owner) {
-    lines.push(`owned by ${recording.threads[bar.owner - 1].name} (${bar.ownerLevel}) as it began${at(bar.taken)}`)
+    lines.push(asItBegan(recording.threads[bar.owner - 1].name))
   } else {
     lines.push('owned by nobody then: the next owner was quicker')
   }
@@ -64,7 +68,7 @@ function waitLines(recording, bar, since, time, at) {
     const blamed = [...new Set(bar.late.map(it => recording.mutexes[it.mutex].name))].join(', ')
     lines.push(`held up for ${duration(bar.inverted)}: ${blamed} passes too little on`)
   } else if (bar.stalled) {
-    lines.push(`for ${duration(bar.stalled)} of it the thread that had to run waited for something else`)
+    lines.push(`for ${duration(bar.stalled)} of it what had to run waited for something else`)
   } else if (bar.lower) {
     lines.push('bounded: the owner is boosted meanwhile')
   }
