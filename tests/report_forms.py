@@ -386,7 +386,7 @@ def windows(found):
     """A page that can't keep all has all waits, what is near the worst of them, and shares."""
     wrong, most = [], pack.MOST_ITEMS
     pack.MOST_ITEMS = 1
-    for seed, (_, one, _) in enumerate(found[:30]):
+    for seed, (_, one, _) in enumerate(found):
         if not one.all or one.recording.all_rows.ended < 9:
             continue
         data, value = data_of(page_of("title", one)), json.loads(json_of(one))
