@@ -143,6 +143,30 @@ async function pointer() {
   check('it moves to the end, and no further', await isWithin() ? null : `${await view()}`)
 }
 
+/** A click into the strip of all shows that time. */
+async function strip() {
+  await open('pool_of_workers')
+  await evaluate('pimReport.view.zoom(.1)')
+  const { x, y, width } = await box('overview'), lanes = await box('lanes')
+  const left = lanes.x + await evaluate('pimReport.lanes.side'), time = .75 * await ended()
+  await page.mouse(left + .75 * (x + width - left), y + 10, 'mousePressed', 'mouseReleased')
+  await frame()
+  const [from, to] = await view(), far = Math.abs((from + to) / 2 - time) / await ended()
+  check('a click into the strip shows that time', far < .01 ? null : `${from} to ${to}`)
+}
+
+/** An arrow leads from the chosen wait through the lanes between to what owns the mutex. */
+async function arrow() {
+  await open('chain')
+  const isThere = await evaluate(`(() => {
+    const { lanes } = pimReport, place = lanes.layout.places.find(it => it.lane.name === 'vision')
+    const x = Math.round(lanes.x(2_100_000)) - 2, y = place.y + 4 + 24 - lanes.top, { ratio } = lanes
+    const { data } = lanes.ink.getImageData(x * ratio, y * ratio, 6 * ratio, 1)
+    return Array.from(data).some((it, i) => i % 4 === 0 && Math.max(it, data[i + 1], data[i + 2]) < 60)
+  })()`)
+  check('an arrow leads to the owner', isThere ? null : 'there is none')
+}
+
 async function dragged(x, y, to) {
   const send = (type, x, buttons) => page.call('Input.dispatchMouseEvent',
     { type, x, y, button: 'left', buttons, clickCount: 1 })
@@ -301,8 +325,8 @@ async function table() {
   const none = await all('#rows .none', 'it.textContent')
   check('a filter that leaves nothing', differs(none, ['Nothing is left by this filter.']))
   await typed('filter', '', 'input')
-  await typed('kind', 'bounded', 'change')
-  check('the kind', differs(await cells('what'), ['mutex 7']))
+  await typed('kind', 'held up', 'change')
+  check('the kind', differs(await cells('kind'), ['held up', 'held up']))
   await typed('kind', '', 'change')
   await evaluate("document.querySelectorAll('thead button')[0].click()")
   await evaluate("document.querySelector('#rows tbody tr').focus()")
@@ -332,6 +356,17 @@ async function frames() {
     CanvasRenderingContext2D.prototype.fillRect = real
     return most
   })()`)
+  const filled = await evaluate(`(() => {
+    const { lanes, view, draw } = pimReport, { places } = lanes.layout
+    view.whole()
+    draw()
+    const place = places.find(it => it.lane.name === 'low'), ratio = lanes.ratio
+    const y = (place.bars + lanes.bar - 6 + 24 - lanes.top) * ratio, wide = lanes.width - lanes.side
+    const { data } = lanes.ink.getImageData(lanes.side * ratio, y, wide * ratio, 1)
+    const isOwned = i => data[i] === 0xb3 && data[i + 1] === 0xc1 && data[i + 2] === 0xce
+    return Array.from({ length: data.length / 4 }, (_, i) => 4 * i).filter(isOwned).length / wide
+  })()`)
+  check('bars that are narrower than a pixel are drawn', filled > .9 ? null : `${filled} of the pixels`)
   check('a frame of 65,000 facts', most < 30_000 && most > 100 ? null : `${most} rectangles`)
 }
 
@@ -362,7 +397,7 @@ for (const name of names.filter(name => name !== 'large')) {
   }
 }
 for (const name of ['chain', 'pool_of_workers']) await sizes(name)
-for (const part of [pointer, pinched, pointing, keys, tabs, table, frames]) await part()
+for (const part of [pointer, strip, arrow, pinched, pointing, keys, tabs, table, frames]) await part()
 await pixels('large')
 if (shots) await screenshots()
 check('no request, no error', failures().join('; '))
