@@ -349,7 +349,7 @@ def generated(converter):
     generate = ROOT / "record/out/generate"
     for options in (["-t", "300", "-m", "1", "-c", "100"], ["-t", "1", "-m", "1"], ["-t", "16", "-m", "50000"]):
         subprocess.run([generate, "-n", "200000", *options, converter.path], check=True, timeout=SECONDS)
-        done = subprocess.run([CONVERTER, converter.path], capture_output=True, timeout=20, check=False)
+        done = subprocess.run([CONVERTER, converter.path], capture_output=True, timeout=SECONDS, check=False)
         check(f"facts of 200,000 records: generate {' '.join(options)}",
               difference((done.returncode, done.stdout.count(b"\n") > 140000), (0, True)))
 
