@@ -1,0 +1,15 @@
+pub mod Changing
+pub mod Flowing
+pub mod Gathering
+pub mod Grouping
+pub mod Lists
+pub mod Marks
+pub mod Nearest
+pub mod Owning
+pub mod Places
+pub mod Raising
+pub mod Settling
+pub mod Shorter
+pub mod Untouching
+pub mod Ways
+pub mod Whole

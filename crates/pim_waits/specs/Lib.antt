@@ -1,0 +1,15 @@
+pub mod Added
+pub mod Around
+pub mod Awaited
+pub mod Flow
+pub mod Groups
+pub mod Marked
+pub mod Members
+pub mod Model
+pub mod Own
+pub mod Settled
+pub mod Shown
+pub mod Sides
+pub mod Touched
+pub mod Waiting
+pub mod Whole
