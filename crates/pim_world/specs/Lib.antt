@@ -1,0 +1,7 @@
+pub mod Known
+pub mod Worlds
+pub mod Following
+pub mod After
+pub mod Held
+pub mod Texts
+pub mod Laws
