@@ -1,0 +1,22 @@
+//! Laws over the definitions: each is the contract of a function that does nothing, so that it is proved.
+
+ghost use Rattle.pim_rows.specs.Laws.{SumsLaw, OrderLaw, BoundsLaw};
+
+/// The times of a wait are sums of the stretches in which what they count held.
+///
+/// So the rows of a table add up to the time in the row of the wait.
+pub fn sums_law()
+    ensures { SumsLaw }
+{}
+
+/// The clock never goes back.
+pub fn order_law()
+    ensures { OrderLaw }
+{}
+
+/// A wait is inverted for no longer than its runner has a lower level, and its runner isn't blocked then.
+///
+/// Another thread runs in place of the runner for no longer than the wait is inverted.
+pub fn bounds_law()
+    ensures { BoundsLaw }
+{}

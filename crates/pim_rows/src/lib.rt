@@ -1,0 +1,57 @@
+//! The rows that follow from a text of facts.
+//!
+//! [`findings_of`] returns the bytes of the rows, and the status: exactly those of specs/Rows.antt, which is docs/ROWS.md in
+//! definitions. It follows the text line by line, and keeps how each wait, section and other thing that lasts began.
+//!
+//! ```text
+//! findings_of(alloc, b"facts 1\nthread 1 30 high\n5 end\n"); // Ok: the rows "end 3 5 0 0 0\n", and the status 0
+//! findings_of(alloc, b"facts 1\n5 1 granted 1\n"); // Err(Line(2, Refused(NoThread))): thread 1 isn't declared
+//! ```
+#![tactic(auto)]
+
+mod before;
+mod block;
+mod block_rows;
+mod blocks;
+mod deadlocks;
+mod ended_rows;
+mod findings;
+mod going;
+mod grant;
+mod grants;
+mod in_order;
+mod lasting;
+mod laws;
+mod lines;
+mod nest_table;
+mod nesting;
+mod off_time;
+mod off_times;
+mod open_wait;
+mod open_waits;
+mod row;
+mod rows_text;
+mod run_changes;
+mod run_start;
+mod runs;
+mod section_table;
+mod sections;
+mod standing;
+mod starts;
+mod table;
+mod tally;
+mod tracker;
+mod wait_rows;
+mod wait_start;
+mod wait_starts;
+
+pub use deadlocks::{by_number, put_deadlocks};
+pub use findings::{Findings, findings_of};
+pub use laws::{bounds_law, order_law, sums_law};
+pub use nest_table::{NestTable, Nests, put_nests};
+pub use open_wait::OpenWait;
+pub use row::Word;
+pub use rows_text::put_row;
+pub use section_table::{Section, SectionTable, Sections, TableKey, put_sections};
+pub use table::{Key, Times};
+pub use tally::{Standing, Tally};

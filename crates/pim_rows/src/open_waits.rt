@@ -1,0 +1,152 @@
+//! All waits that last.
+
+ghost use Rattle.std.specs.Prelude.{◌≡◌, ◌≢◌, ◌≤◌, ◌<◌, ◌+◌, ℕ, List, length, IfOk, Some, None};
+ghost use Rattle.pim_base.specs.Lists.{nth};
+ghost use Rattle.pim_fact_lines.specs.declared.line.Line.{Line};
+ghost use Rattle.pim_world.specs.After.{after};
+ghost use Rattle.pim_world.specs.Held.{world_of};
+ghost use Rattle.pim_rows.specs.declared.open_wait.OpenWait.{OpenWait};
+ghost use Rattle.pim_rows.specs.Moments.{Moment, now, first_moments, followed_by};
+ghost use Rattle.pim_rows.specs.Standing.{waits};
+ghost use Rattle.pim_rows.specs.Found.{actor};
+ghost use Rattle.pim_rows.specs.OpenWaits.{IsUntil};
+ghost use Rattle.pim_rows.specs.AllOpen.{AreOpen, AreUntil, GoneOnAt, EndedAt, BegunAt, SameBut, open_at, ended_times};
+
+use crate::open_wait::OpenWait;
+use crate::tally::{Standing, Tally};
+use pim_waits::ThreadPlace;
+use pim_world::World;
+use std::alloc::{AllocError, Global};
+
+/// By the place of a thread, its wait that lasts.
+#[derive(Drop)]
+pub(crate) struct OpenWaits {
+    pub(crate) opens: Vec<Option<OpenWait>>,
+}
+
+impl OpenWaits {
+    /// Returns that no thread waits.
+    pub(crate) fn new(alloc: Global) -> OpenWaits
+        ensures { AreOpen result.opens.items first_moments }
+    {
+        OpenWaits {
+            opens: Vec::new(alloc),
+        }
+    }
+
+    /// Goes on by a line. Takes the world after it, its thread, and whether that waited before. Returns for how long what
+    /// held of that thread, if the line ended its wait.
+    ///
+    /// # Errors
+    ///
+    /// Returns `AllocError` if out of memory.
+    pub(crate) fn follow(
+        &mut self,
+        alloc: Global,
+        world: &World,
+        thread: Option<ThreadPlace>,
+        was: bool,
+    ) -> Result<Option<Tally>, AllocError>
+        requires { AreUntil (world_of world.now).clock self.old.opens.items }
+        ensures kept { IfOk result (λ _. (ms : List Moment) (l : Line) → world_of world.now ≡ after (now ms) l
+            → thread ≡ actor (now ms) l → ((t : ℕ) → thread ≡ Some t → was ≡ waits t (now ms))
+            → AreOpen self.old.opens.items ms
+            → AreOpen self.new.opens.items (followed_by ms l)) }
+        ensures ended { IfOk result (λ times. (ms : List Moment) (l : Line) → world_of world.now ≡ after (now ms) l
+            → thread ≡ actor (now ms) l → ((t : ℕ) → thread ≡ Some t → was ≡ waits t (now ms))
+            → AreOpen self.old.opens.items ms
+            → times ≡ ended_times thread ms l) }
+    {
+        let Some(thread) = thread else {
+            self.refresh(world)?;
+            return Ok(None);
+        };
+        if world.waits().awaited(thread).is_none() {
+            let ended = self.end(thread, world.clock())?;
+            self.refresh(world)?;
+            return Ok(ended);
+        }
+        self.refresh(world)?;
+        if was {
+            return Ok(None);
+        }
+        self.begin(alloc, world, thread)?;
+        Ok(None)
+    }
+
+    /// Keeps the wait of a thread, which waits since the line after which this is the world.
+    fn begin(&mut self, alloc: Global, world: &World, thread: ThreadPlace) -> Result<(), AllocError>
+        requires { 1 ≤ thread }
+        ensures here { IfOk result (λ _. BegunAt (world_of world.now) thread (open_at self.new.opens.items thread)) }
+        ensures others { IfOk result (λ _. SameBut thread self.old.opens.items self.new.opens.items) }
+    {
+        let open = OpenWait::new(alloc, Standing::of(world, thread), world.clock());
+        self.grow(thread.0)?;
+        self.opens[thread.0 - 1] = Some(open);
+        Ok(())
+    }
+
+    /// Makes place for what is kept of as many threads.
+    fn grow(&mut self, threads: usize) -> Result<(), AllocError>
+        ensures same { IfOk result (λ _. (t : ℕ) → open_at self.new.opens.items t ≡ open_at self.old.opens.items t) }
+        ensures len { IfOk result (λ _. threads ≤ length self.new.opens.items) }
+    {
+        for _thread in self.opens.len()..threads {
+            self.opens.push(None)?;
+        }
+        Ok(())
+    }
+
+    /// Ends the wait that is kept of a thread, if one is, and returns for how long what held.
+    fn end(&mut self, thread: ThreadPlace, clock: u64) -> Result<Option<Tally>, AllocError>
+        requires { AreUntil clock self.old.opens.items }
+        ensures times { IfOk result (EndedAt clock (open_at self.old.opens.items thread)) }
+        ensures gone { IfOk result (λ _. open_at self.new.opens.items thread ≡ None) }
+        ensures others { IfOk result (λ _. (t : ℕ) → t ≢ thread → nth self.new.opens.items t ≡ nth self.old.opens.items t) }
+    {
+        match self.take(thread.0) {
+            Some(open) => Ok(Some(open.close(clock)?)),
+            None => Ok(None),
+        }
+    }
+
+    /// Takes out what is kept of the thread at a place.
+    pub(crate) fn take(&mut self, place: usize) -> Option<OpenWait>
+        ensures here { result ≡ open_at self.old.opens.items place }
+        ensures gone { open_at self.new.opens.items place ≡ None }
+        ensures others { (t : ℕ) → t ≢ place → nth self.new.opens.items t ≡ nth self.old.opens.items t }
+    {
+        if place == 0 || self.opens.len() < place {
+            return None;
+        }
+        self.opens[place - 1].take()
+    }
+
+    /// Goes on by a line with all waits that are kept. Takes the world after it, in which each thread waits whose wait is kept.
+    pub(crate) fn refresh(&mut self, world: &World) -> Result<(), AllocError>
+        requires { AreUntil (world_of world.now).clock self.old.opens.items }
+        ensures { IfOk result (λ _. (t : ℕ) → GoneOnAt (world_of world.now) t (nth self.old.opens.items t) (nth self.new.opens.items t)) }
+    {
+        for index in 0..self.opens.len() {
+            self.refresh_at(world, index)?;
+        }
+        Ok(())
+    }
+
+    /// Goes on with the wait at one place.
+    fn refresh_at(&mut self, world: &World, index: usize) -> Result<(), AllocError>
+        requires within { index < length self.old.opens.items }
+        requires until { (w : OpenWait) → nth self.old.opens.items (index + 1) ≡ Some (Some w) → IsUntil (world_of world.now).clock w }
+        ensures here { IfOk result (λ _. GoneOnAt (world_of world.now) (index + 1)
+            (nth self.old.opens.items (index + 1)) (nth self.new.opens.items (index + 1))) }
+        ensures others { IfOk result (λ _. (t : ℕ) → t ≢ index + 1
+            → nth self.new.opens.items t ≡ nth self.old.opens.items t) }
+        ensures len { length self.new.opens.items ≡ length self.old.opens.items }
+    {
+        if let Some(open) = &mut self.opens[index] {
+            let standing = Standing::of(world, ThreadPlace(index + 1));
+            open.refresh(world.clock(), standing)?;
+        }
+        Ok(())
+    }
+}
