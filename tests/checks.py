@@ -152,10 +152,13 @@ def program():
     return str(pathlib.Path(sys.argv[1]).resolve()) if len(sys.argv) > 1 else own_program()
 
 
-def own_program(name="pim", crate="pim"):
-    """Returns the path of a program of the repository, and builds it if it is older than the code."""
+def own_program(name="pim", crate="pim", text=b"pim 1\n"):
+    """Returns the path of a program of the repository, and builds it if it is older than the code.
+
+    The text is one for which its status is 0.
+    """
     command = [ROOT / name, *(["check"] if name == "pim" else [])]
-    if subprocess.run(command, input=b"pim 1\n", stdout=subprocess.DEVNULL).returncode:
+    if subprocess.run(command, input=text, stdout=subprocess.DEVNULL).returncode:
         sys.exit(f"the program {name} was not built")
     return str(ROOT / "crates" / crate / "out" / crate)
 
