@@ -3,7 +3,7 @@ import re
 from collections import namedtuple
 
 NUMBER, NAME = re.compile(rb"0|[1-9][0-9]{0,18}"), re.compile(rb"[!-~]{1,64}")
-NOT_PLACES, MOST_WORDS = (b"by", b"failed", b"of", b"timed-out"), 16
+NOT_PLACES, MOST_PLACES = (b"by", b"failed", b"of", b"timed-out"), 16
 NONE, INHERIT, PROTECT = b"none", b"inherit", b"protect"
 KINDS = b"semaphore", b"rwlock", b"barrier", b"thread", b"condition", b"futex"
 MOST_THREAD, MOST_NUMBER = 2**32 - 2, 10**19 - 1
@@ -143,7 +143,7 @@ def places(words, not_places=NOT_PLACES):
     """Takes up to 16 places, which nothing depends on."""
     found, words[:] = list(words), []
     are_places = all(NAME.fullmatch(word) and word not in not_places for word in found)
-    return {} if are_places and len(found) <= MOST_WORDS else None
+    return {} if are_places and len(found) <= MOST_PLACES else None
 
 
 def is_next(words, word):
