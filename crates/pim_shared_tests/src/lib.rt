@@ -1,4 +1,5 @@
-//! Tests of pim_shared: scenarios as rows, threads that call one shared manager, and workers.
+//! Tests of pim_shared: scenarios as rows, threads that call one shared manager, and workers. `starting` also has
+//! scripts that pim_tool runs and checks, whose threads can't be started.
 //!
 //! They have a crate of their own, since a crate with tests is proved a second time with them.
 #![tactic(auto)]

@@ -89,7 +89,7 @@ fn entry_of(row: &Row) -> Option<Entry> {
 }
 
 /// Whether the entries are those of the rows, each once and in order.
-fn are_logged(entries: &[Entry], rows: &[Row]) -> bool {
+pub fn are_logged(entries: &[Entry], rows: &[Row]) -> bool {
     let mut rest = entries.iter();
     for row in rows {
         if let Some(entry) = entry_of(row)

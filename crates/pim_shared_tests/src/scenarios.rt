@@ -1,22 +1,40 @@
-//! Scenarios over one shared manager of two tasks with the bases 10 and 20.
+//! Scenarios over one shared manager, mostly of two tasks with the bases 10 and 20.
 
 use crate::making::{FIRST, SECOND, base, by, made};
 use crate::rows::Row::{Call, CallWith, Look, Settle};
-use crate::rows::{Row, expect_rows};
+use crate::rows::{Row, are_logged, expect_rows, first_wrong};
 use Op::{Cancel, Lock, ReleaseAll, SetBase, Try, Unlock};
 use pim_base::{MutexNo, Op, Protocol, Reason, Refusal, Reply, TaskNo};
-use pim_shared::{Settled, SharedFault};
+use pim_shared::{Settled, Shared, SharedFault};
+use std::alloc::Global;
+use std::process::Abort;
+use std::sync::Wait;
+
+/// A log that is full after two calls.
+const FULL: [Row; 4] = [
+    Call(1, Lock(FIRST), Ok(Reply::Granted)),
+    Call(1, Unlock(FIRST), Ok(Reply::Freed)),
+    Call(1, Try(FIRST), Err(SharedFault::Full)),
+    Call(1, Lock(FIRST), Err(SharedFault::Closed)),
+];
+
+/// The first of these rows that is wrong, whether the log has their entries, and who owns mutex 1 at the end.
+fn full<R: Wait + Abort>(rt: &R, alloc: Global) -> (Option<usize>, bool, Option<Option<TaskNo>>) {
+    let manager = made(rt, alloc, &[10], &[Protocol::None]);
+    let (shared, mut lookers) = Shared::new(rt, alloc, manager, 2, 0).expect(rt, "memory");
+    let wrong = first_wrong(rt, &shared, &mut lookers, &FULL);
+    let (manager, log) = shared.finish(rt);
+    (
+        wrong,
+        are_logged(log.entries(), &FULL),
+        manager.owner(FIRST),
+    )
+}
 
 #[test]
 fn a_full_log_closes(rt: HostRuntime) {
-    const ROWS: [Row; 4] = [
-        Call(1, Lock(FIRST), Ok(Reply::Granted)),
-        Call(1, Unlock(FIRST), Ok(Reply::Freed)),
-        Call(1, Try(FIRST), Err(SharedFault::Full)),
-        Call(1, Lock(FIRST), Err(SharedFault::Closed)),
-    ];
-    let manager = made(&rt, rt.alloc(), &[10, 20], &[Protocol::None]);
-    expect_rows(&rt, rt.alloc(), manager, 2, 0, &ROWS);
+    let shown = full(&rt, rt.alloc());
+    assert!(rt; shown == (None, true, Some(None)));
 }
 
 #[test]

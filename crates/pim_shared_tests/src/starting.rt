@@ -1,4 +1,4 @@
-//! Workers whose threads can't be started.
+//! Workers whose threads can't be started, also those of a script that is run or checked.
 
 ghost use Rattle.std.specs.Prelude.{◌≤◌, length};
 ghost use Rattle.pim_base.specs.declared.limits.TheConstants.{MAX_WORKERS};
@@ -7,6 +7,7 @@ use crate::gates::Recorder;
 use crate::making::scripts_of;
 use pim_base::{MAX_WORKERS, Op};
 use pim_shared::{SharedFault, run_scripts};
+use pim_tool::{Fault, MemoryReader, MemoryWriter, check, run};
 use std::alloc::{AllocError, Global};
 use std::process::Abort;
 use std::sync::Wait;
@@ -58,4 +59,24 @@ fn a_worker_that_is_not_started_makes_no_call_and_counts_as_memory(rt: HostRunti
         let shown = not_started(&rt, rt.alloc(), &scripts);
         assert!(rt; shown == (Err(SharedFault::Memory), 0), "{count}");
     }
+}
+
+const SCRIPT: &[u8] = b"pim 1\ntask 1 10\ntask 2 20\nmutex 1 inherit\n1 lock 1\n2 lock 1\n";
+
+/// The faults of a run and of a check of the script if no thread can be started, and how much both write.
+fn unstarted<R: Threads + Wait + Abort + Sync>(rt: &R, alloc: Global) -> ([Option<Fault>; 2], u64) {
+    let mut writer = MemoryWriter::new(alloc);
+    let blocks = all_large_blocks(alloc).expect(rt, "memory");
+    let ran = run(rt, alloc, &mut MemoryReader::new(SCRIPT), &mut writer).err();
+    let checked = check(rt, alloc, &mut MemoryReader::new(SCRIPT), &mut writer).err();
+    drop(blocks);
+    ([ran, checked], writer.calls())
+}
+
+/// A check that prints its verdict without a run would need no thread.
+#[test]
+fn a_script_whose_workers_are_not_started_is_neither_run_nor_checked(rt: HostRuntime) {
+    let memory = Some(Fault::Shared(SharedFault::Memory));
+    let shown = unstarted(&rt, rt.alloc());
+    assert!(rt; shown == ([memory, memory], 0));
 }

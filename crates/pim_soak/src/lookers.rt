@@ -13,6 +13,9 @@ use std::sync::atomic::{AtomicBool, Ordering};
 use std::thread;
 use std::thread::Threads;
 
+/// How many reads each looker makes at least, while the workers run or after they have finished.
+const LEAST_LOOKS: u64 = 1_000;
+
 /// A read of a task: how many entries it saw, and the task's priority and reason after them.
 #[derive(Clone, Copy, PartialEq, Eq)]
 pub struct Look {
@@ -108,7 +111,7 @@ pub fn expect_all_closed(mut lookers: Vec<Looker>, records: &mut [Record]) {
     }
 }
 
-/// Reads the tasks again and again, and once more after all workers have finished.
+/// Reads the tasks again and again: at least `LEAST_LOOKS` times, and each task once after all workers have finished.
 fn watch<R: Wait>(
     rt: &R,
     looker: &mut Looker,
@@ -117,7 +120,7 @@ fn watch<R: Wait>(
     ended: &AtomicBool,
 ) {
     for _ in rt.forever() {
-        let is_last = ended.load(Ordering::SeqCst);
+        let is_last = ended.load(Ordering::SeqCst) && record.looks >= LEAST_LOOKS;
         record.look_round(looker, tasks);
         thread::yield_now();
         if is_last {

@@ -11,6 +11,8 @@
 //!
 //! `pim_soak planted SEED` runs the scripts of one seed several times, each time with another mistake put into what is
 //! compared, and prints how many differences it finds.
+//!
+//! `pim_soak opposite` runs the scripts of 16 tasks that lock two mutexes in opposite orders, and prints the same line.
 #![tactic(auto)]
 
 mod crowd;
@@ -48,6 +50,8 @@ enum Job {
     Soak(u64, u64),
     /// Mistakes in the run of this seed.
     Planted(u64),
+    /// The scripts in opposite orders.
+    Opposite,
 }
 
 fn main(rt: HostRuntime) -> io::Result<ExitCode> {
@@ -55,8 +59,9 @@ fn main(rt: HostRuntime) -> io::Result<ExitCode> {
     match job_of(&words) {
         Some(Job::Soak(seconds, seed)) => soak_and_print(&rt, rt.alloc(), seconds, seed),
         Some(Job::Planted(seed)) => print_planted(&rt, rt.alloc(), seed),
+        Some(Job::Opposite) => print_opposite(&rt, rt.alloc()),
         None => {
-            eprintln!(&rt; "pim_soak SECONDS [SEED] | planted SEED")?;
+            eprintln!(&rt; "pim_soak SECONDS [SEED] | planted SEED | opposite")?;
             Ok(ExitCode::from(FAULT))
         }
     }
@@ -65,6 +70,7 @@ fn main(rt: HostRuntime) -> io::Result<ExitCode> {
 /// Returns what the command line asks for, or None if the arguments are wrong. The seed is 1 if it is missing.
 fn job_of(words: &[String]) -> Option<Job> {
     match words {
+        [_program, job] if job.as_str() == "opposite" => Some(Job::Opposite),
         [_program, seconds] => Some(Job::Soak(seconds.parse().ok()?, 1)),
         [_program, job, seed] if job.as_str() == "planted" => Some(Job::Planted(
             seed.parse().ok()?,
@@ -82,8 +88,37 @@ fn soak_and_print<R: Threads + Wait + Sync + Clock + Print + Eprint>(
     seed: u64,
 ) -> io::Result<ExitCode> {
     let figures = soak(rt, alloc, Duration::from_secs(seconds), seed)?;
+    print_figures(rt, &figures)
+}
+
+/// Prints the figures, and returns the status for them.
+fn print_figures<R: Print>(rt: &R, figures: &Figures) -> io::Result<ExitCode> {
     println!(rt; "{figures}")?;
     Ok(ExitCode::from(if figures.differences == 0 { 0 } else { DIFFERS }))
+}
+
+/// Runs the scripts in opposite orders, and prints the figures, or the fault of the run.
+fn print_opposite<R: Threads + Wait + Sync + Print + Eprint>(
+    rt: &R,
+    alloc: Global,
+) -> io::Result<ExitCode> {
+    match opposite(rt, alloc) {
+        Ok(figures) => print_figures(rt, &figures),
+        Err(fault) => {
+            eprintln!(rt; "the scripts in opposite orders: {fault}")?;
+            Ok(ExitCode::from(DIFFERS))
+        }
+    }
+}
+
+/// Runs the scripts in opposite orders.
+///
+/// # Errors
+///
+/// Those of `trial`.
+fn opposite<R: Threads + Wait + Sync>(rt: &R, alloc: Global) -> Result<Figures, SharedFault> {
+    let scene = Scene::opposite(alloc)?;
+    trial(rt, alloc, &scene, MAX_LOOKERS, Planted::Nothing)
 }
 
 /// Runs the scripts of the seed once for each mistake, and prints the number of differences.

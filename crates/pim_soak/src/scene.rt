@@ -1,4 +1,4 @@
-//! Random scripts for random tasks and mutexes.
+//! Random scripts for random tasks and mutexes, and scripts in opposite orders.
 
 ghost use Rattle.std.specs.Prelude.{◌≤◌, ◌<◌};
 ghost use Rattle.pim_soak.specs.declared.scene.TheConstants.{MOST_TASKS, MOST_MUTEXES};
@@ -49,6 +49,42 @@ impl Scene {
         }
         Ok(scene)
     }
+
+    /// Returns the scene of 16 tasks with the bases 10 to 25 and two INHERIT mutexes: each task locks both, the inner one
+    /// is released first, and an even task locks them in the opposite order.
+    ///
+    /// # Errors
+    ///
+    /// Returns `AllocError` if out of memory.
+    pub fn opposite(alloc: Global) -> Result<Scene, AllocError> {
+        let mut scene = Scene {
+            bases: Vec::new(alloc),
+            protocols: Vec::new(alloc),
+            scripts: Vec::new(alloc),
+        };
+        scene.protocols.push(Protocol::Inherit)?;
+        scene.protocols.push(Protocol::Inherit)?;
+        for task in 1..MOST_TASKS + 1 {
+            scene.bases.push(Prio::new(9 + task).unwrap())?;
+            scene.scripts.push(nested(alloc, task)?)?;
+        }
+        Ok(scene)
+    }
+}
+
+/// Returns the script of a task that locks and unlocks both mutexes.
+fn nested(alloc: Global, task: u16) -> Result<Vec<Op>, AllocError> {
+    let (outer, inner) = if task % 2 == 1 {
+        (MutexNo(1), MutexNo(2))
+    } else {
+        (MutexNo(2), MutexNo(1))
+    };
+    let mut script = Vec::new(alloc);
+    script.push(Op::Lock(outer))?;
+    script.push(Op::Lock(inner))?;
+    script.push(Op::Unlock(inner))?;
+    script.push(Op::Unlock(outer))?;
+    Ok(script)
 }
 
 /// Returns the number of entries in the log of a run: the lines, and a release by each task.
