@@ -11,7 +11,7 @@ use Rattle.pim_base.specs.declared.lines.Line.{Line}
 use Rattle.pim_base.specs.declared.lines.Line.TheVariants as lines
 use Rattle.pim_base.specs.Spelling.{version_line, IsLine, BelongsTo, spelled}
 use Rattle.pim_base.specs.Texts.{Trace, declared, IsWithinLimits, spelled_lines, Spells}
-use Rattle.pim_text.specs.Reading.{ReadsBytes, empty_of, with_line, MayOwnNext}
+use Rattle.pim_text.specs.Reading.{ReadsBytes, empty_of, with_line, MayFollow}
 use Rattle.pim_base.specs.Scripts.{StandsInScript}
 use Rattle.pim_text.specs.declared.kind.TextKind.{TextKind}
 use Rattle.pim_text.specs.declared.kind.TextKind.TheVariants as kinds
@@ -39,7 +39,7 @@ record Grown (u : Trace) : Type 0 where
   before : Trace
   line : Line
   whole : u ≡ with_line before line
-  may : MayOwnNext before line
+  may : MayFollow before line
 
 abbrev made : ℕ → List ℕ → List Protocol → List StepLine → Trace
 made v bs ps ss = record { version = v; bases = bs; protocols = ps; steps = ss }
@@ -91,7 +91,7 @@ all_front P (y ∷ ys) x h = let rest = all_front P ys x h.1 in ((h.0, rest.0), 
 within :
     (t : Trace) (m : Line)
     → IsWithinLimits t
-    → MayOwnNext t m
+    → MayFollow t m
     → AllByRecursion IsLine (declared (with_line t m))
     → AllByRecursion (BelongsTo t.version) (declared (with_line t m))
     → IsWithinLimits (with_line t m)
@@ -103,7 +103,7 @@ grows :
     → Spells ls t
     → IsLine m
     → BelongsTo t.version m
-    → MayOwnNext t m
+    → MayFollow t m
     → Spells (ls ++ spelled m ∷ []) (with_line t m)
 grows ls t m spells is belongs may = grind (arith, declared-with_line, all_append, within, map-append)
 
@@ -111,7 +111,7 @@ grows ls t m spells is belongs may = grind (arith, declared-with_line, all_appen
 
 obeys_more :
     (kind : TextKind) (t : Trace) (m : Line)
-    → MayOwnNext t m
+    → MayFollow t m
     → Allows kind t m
     → Obeys kind t
     → Obeys kind (with_line t m)
@@ -119,7 +119,7 @@ obeys_more kind t m may allowed h = grind (arith, common_steps)
 
 obeys_parts :
     (kind : TextKind) (t : Trace) (m : Line)
-    → MayOwnNext t m
+    → MayFollow t m
     → Obeys kind (with_line t m)
     → Obeys kind t × Allows kind t m
 obeys_parts kinds.Trace t m may h = (tt, tt)
@@ -149,7 +149,7 @@ record Shrunk (kind : TextKind) (ls : List (List ℕ)) (bytes : List ℕ) : Type
   is : IsLine line
   spells : SpellsAs kind ls before
   last : bytes ≡ spelled line
-  may : MayOwnNext before line
+  may : MayFollow before line
   belongs : BelongsTo before.version line
   allowed : Allows kind before line
 
@@ -205,7 +205,7 @@ front_is kind ls (l ∷ rest) some valid =
 stops :
     (kind : TextKind) (ls : List (List ℕ)) (t : Trace) (bytes : List ℕ)
     → Spells ls t
-    → ((m : Line) → IsLine m → BelongsTo t.version m → MayOwnNext t m → Allows kind t m → bytes ≡ spelled m → ⊥)
+    → ((m : Line) → IsLine m → BelongsTo t.version m → MayFollow t m → Allows kind t m → bytes ≡ spelled m → ⊥)
     → IsOf kind (ls ++ bytes ∷ []) → ⊥
 stops kind ls t bytes spells none valid =
     let shrunk = shrinks kind ls bytes (omega (arith, ap length spells.1)) valid in
@@ -213,7 +213,7 @@ stops kind ls t bytes spells none valid =
     spelled_once shrunk.before t shrunk.spells.0.0 spells.0 (sym shrunk.spells.0.1 ∙ spells.1) in
     none shrunk.line shrunk.is
     (subst (λ (t : Trace). BelongsTo t.version shrunk.line) same shrunk.belongs)
-    (subst (λ t. MayOwnNext t shrunk.line) same shrunk.may)
+    (subst (λ t. MayFollow t shrunk.line) same shrunk.may)
     (subst (λ t. Allows kind t shrunk.line) same shrunk.allowed)
     shrunk.last
 
@@ -224,7 +224,7 @@ pub adds_line :
     → IsLine m × (bytes ≡ spelled m)
     → BelongsTo t.version m
     → Allows kind t m
-    → IfOk r (λ added. MatchBool added (MayOwnNext t m × (u ≡ with_line t m)) (MayOwnNext t m → ⊥))
+    → IfOk r (λ added. MatchBool added (MayFollow t m × (u ≡ with_line t m)) (MayFollow t m → ⊥))
     → IfOk r (λ added.
     (ls : List (List ℕ))
     → SpellsAs kind ls t
@@ -234,7 +234,7 @@ adds_line kind t u bytes m (Ok true) read belongs allowed h =
     λ ls spells. rw (h.1, read.1) ((grows ls t m spells.0 read.0 belongs h.0, obeys_more kind t m h.0 allowed spells.1))
 adds_line kind t u bytes m (Ok false) read belongs allowed h =
     λ ls spells. stops kind ls t bytes spells.0 (λ l is of_version may allowed e.
-    let same : l ≡ m = spelled_same l m is read.0 (sym e ∙ read.1) in h (subst (MayOwnNext t) same may))
+    let same : l ≡ m = spelled_same l m is read.0 (sym e ∙ read.1) in h (subst (MayFollow t) same may))
 
 -- a line of a later version
 pub later_line :

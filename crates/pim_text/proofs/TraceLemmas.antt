@@ -13,7 +13,7 @@ use Rattle.pim_base.specs.declared.lines.Line.TheVariants as lines
 use Rattle.pim_base.specs.declared.limits.TheConstants.{MAX_TASKS, MAX_MUTEXES, MAX_STEPS}
 use Rattle.pim_base.specs.Spelling.{version_line, IsLine, spelled}
 use Rattle.pim_base.specs.Texts.{Trace, declared, task_lines, mutex_lines, IsWithinLimits, spelled_lines, Spells}
-use Rattle.pim_text.specs.Reading.{empty_of, with_line, MayOwnNext}
+use Rattle.pim_text.specs.Reading.{empty_of, with_line, MayFollow}
 use Rattle.pim_text.proofs.SpellingLemmas.{spelled_same, value-decimal}
 
 -- ---- the lines of a text determine it
@@ -119,7 +119,7 @@ with_mutex :
 with_mutex ts ps p n e = grind (arith, mutex_lines-append_one, append_assoc)
 
 -- a line that may follow does
-pub declared-with_line : (t : Trace) (m : Line) → MayOwnNext t m → declared (with_line t m) ≡ declared t ++ m ∷ []
+pub declared-with_line : (t : Trace) (m : Line) → MayFollow t m → declared (with_line t m) ≡ declared t ++ m ∷ []
 declared-with_line t m may = grind (arith, with_task, with_mutex, common_steps)
 
 -- ---- how many lines a text has

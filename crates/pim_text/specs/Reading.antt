@@ -57,13 +57,13 @@ with_line t (lines.Mutex n protocol) = record t { protocols = t.protocols ++ pro
 with_line t (lines.Step step) = record t { steps = t.steps ++ step ∷ [] }
 
 -- the line may follow those of the text, in a version that has it
-abbrev pub MayOwnNext : Trace → Line → Type 0
-MayOwnNext t (lines.Task n base) =
+abbrev pub MayFollow : Trace → Line → Type 0
+MayFollow t (lines.Task n base) =
     (length t.bases < MAX_TASKS) × (n ≡ length t.bases + 1) × (t.protocols ≡ []) × (t.steps ≡ [])
-MayOwnNext t (lines.Mutex n protocol) =
+MayFollow t (lines.Mutex n protocol) =
     (length t.protocols < MAX_MUTEXES) × (n ≡ length t.protocols + 1) × (t.steps ≡ [])
-MayOwnNext t (lines.Step step) = length t.steps < MAX_STEPS
+MayFollow t (lines.Step step) = length t.steps < MAX_STEPS
 
 -- the line was added to the text if it may follow, and else is refused
 abbrev pub IsAddedTo : Trace → Line → Trace → Bool → Type 0
-IsAddedTo t line u added = MatchBool added (MayOwnNext t line × (u ≡ with_line t line)) (MayOwnNext t line → ⊥)
+IsAddedTo t line u added = MatchBool added (MayFollow t line × (u ≡ with_line t line)) (MayFollow t line → ⊥)
