@@ -20,7 +20,7 @@ use Rattle.pim_base.proofs.Greatest.{greatest_of, greatest_of-le, le-greatest_of
 use Rattle.pim_base.proofs.Stored.{from_holds, holds_from}
 use Rattle.pim_base.proofs.NoCycle.{unwrap_or-put_same}
 use Rattle.pim_chain.specs.Views.{View, Ready, Shows, IsQueue, stored_at, queue_at, queue_in, put_queue, first_prio, with_state}
-use Rattle.pim_chain.specs.Owned.{worth, donated_by}
+use Rattle.pim_chain.specs.Owned.{given, given_by}
 use Rattle.pim_chain.specs.Settled.{SettledBut}
 use Rattle.pim_chain.proofs.Changes.{owner_other, view_other, view_same}
 use Rattle.pim_chain.proofs.Known.{owned_mutex}
@@ -32,14 +32,14 @@ record Alike (v w : View) (t m : ℕ) : Type 0 where
   base : base_of v.state t ≡ base_of w.state t
   mutexes : length v.state.protocol ≡ length w.state.protocol
   owner : (k : ℕ) → k ≢ m → owner_of v.state k ≡ owner_of w.state k
-  worth : (k : ℕ) → k ≢ m → worth v k ≡ worth w k
+  given : (k : ℕ) → k ≢ m → given v k ≡ given w k
 
 alike : (v : View) (t m : ℕ) (o : Option ℕ) → Alike v (with_state v (with_owner v.state m o)) t m
 alike v t m o = record {
   base = refl;
   mutexes = refl;
   owner = λ k ne. sym (owner_other v.state m o k ne);
-  worth = λ k ne. ap (λ x. max (ceiling_of v.state k) (cond (is_some (heir_in (protocol_of v.state k) x)) (first_prio (queue_at v k)) 0)) (sym (owner_other v.state m o k ne));
+  given = λ k ne. ap (λ x. max (ceiling_of v.state k) (cond (is_some (heir_in (protocol_of v.state k) x)) (first_prio (queue_at v k)) 0)) (sym (owner_other v.state m o k ne));
 }
 
 back : {v w : View} {t m : ℕ} → Alike v w t m → Alike w v t m
@@ -47,7 +47,7 @@ back same = record {
   base = sym same.base;
   mutexes = sym same.mutexes;
   owner = λ k ne. sym (same.owner k ne);
-  worth = λ k ne. sym (same.worth k ne);
+  given = λ k ne. sym (same.given k ne);
 }
 
 -- what bounds the local priority with the others and this one mutex, bounds it
@@ -56,24 +56,24 @@ local_under :
     → Ready v
     → Ready w
     → Alike v w t m
-    → (owner_of v.state m ≡ Some t → worth v m ≤ b)
+    → (owner_of v.state m ≡ Some t → given v m ≤ b)
     → local_priority w.state (stored_at w) t ≤ b
     → local_priority v.state (stored_at v) t ≤ b
 local_under v w t m b ready after same here bound =
     subst (λ n. n ≤ b) (local_by_owned v t ready)
     (max-le (le_trans (subst (λ n. base_of v.state t ≤ n) (local_by_owned w t after)
     (subst (λ n. n ≤ max (base_of w.state t) others) (sym same.base) (le-max_left _ _))) bound)
-    (greatest_of-le (worth v) (λ k. holds (owner_of v.state k) t) (length v.state.protocol) b (λ k low high h. each k low high h (cases_eq k m))))
+    (greatest_of-le (given v) (λ k. holds (owner_of v.state k) t) (length v.state.protocol) b (λ k low high h. each k low high h (cases_eq k m))))
   where
     others : ℕ
-    others = greatest_of (worth w) (λ k. holds (owner_of w.state k) t) (length w.state.protocol)
+    others = greatest_of (given w) (λ k. holds (owner_of w.state k) t) (length w.state.protocol)
 
-    each : (k : ℕ) → 1 ≤ k → k ≤ length v.state.protocol → holds (owner_of v.state k) t ≡ true → (k ≡ m) ⊎ (k ≡ m → ⊥) → worth v k ≤ b
+    each : (k : ℕ) → 1 ≤ k → k ≤ length v.state.protocol → holds (owner_of v.state k) t ≡ true → (k ≡ m) ⊎ (k ≡ m → ⊥) → given v k ≤ b
     each k low high h (inl is) =
-        subst (λ n. worth v n ≤ b) (sym is) (here (from_holds (owner_of v.state m) t (ap (λ n. holds (owner_of v.state n) t) (sym is) ∙ h)))
+        subst (λ n. given v n ≤ b) (sym is) (here (from_holds (owner_of v.state m) t (ap (λ n. holds (owner_of v.state n) t) (sym is) ∙ h)))
     each k low high h (inr ne) =
-        subst (λ n. n ≤ b) (sym (same.worth k ne))
-        (le_trans (le-greatest_of (worth w) (λ k. holds (owner_of w.state k) t) (length w.state.protocol) k low
+        subst (λ n. n ≤ b) (sym (same.given k ne))
+        (le_trans (le-greatest_of (given w) (λ k. holds (owner_of w.state k) t) (length w.state.protocol) k low
         (subst (λ n. k ≤ n) same.mutexes high) (ap (λ o. holds o t) (sym (same.owner k ne)) ∙ h))
         (le_trans (subst (λ n. others ≤ n) (local_by_owned w t after) (le-max_right _ _)) bound))
 
@@ -85,12 +85,12 @@ pub gained_local :
     → w ≡ with_state v (with_owner v.state m (Some t))
     → owner_of v.state m ≡ None
     → stored_at v t ≡ local_priority v.state (stored_at v) t
-    → worth w m ≤ stored_at w t
+    → given w m ≤ stored_at w t
     → stored_at w t ≡ local_priority w.state (stored_at w) t
 gained_local v w t m ready after is free right low =
     had ∙ right ∙ le_antisymm
     (local_under v w t m _ ready after same (λ mine. absurd (none-some t (sym free ∙ mine))) (omega arith))
-    (local_under w v t m _ after ready (back same) (λ _. subst (λ n. worth w m ≤ n) (had ∙ right) low) (omega arith))
+    (local_under w v t m _ after ready (back same) (λ _. subst (λ n. given w m ≤ n) (had ∙ right) low) (omega arith))
   where
     same : Alike v w t m
     same = subst (λ x. Alike v x t m) (sym is) (alike v t m (Some t))
@@ -107,7 +107,7 @@ pub lost_settled :
     → owner_of v.state m ≡ Some t
     → SettledBut v.state (stored_at v) None
     → SettledBut w.state (stored_at w) (Some t)
-    → worth v m < stored_at w t
+    → given v m < stored_at w t
     → SettledBut w.state (stored_at w) None
 lost_settled v w t m ready after is owned before but low =
     (visited_same w t but (had ∙ right ∙ le_antisymm lower
@@ -127,20 +127,20 @@ lost_settled v w t m ready after is owned before but low =
 
     lower : local_priority v.state (stored_at v) t ≤ local_priority w.state (stored_at w) t
     lower =
-        let under : local_priority v.state (stored_at v) t ≤ max (local_priority w.state (stored_at w) t) (worth v m) =
+        let under : local_priority v.state (stored_at v) t ≤ max (local_priority w.state (stored_at w) t) (given v m) =
         local_under v w t m _ ready after same (λ _. le-max_right _ _) (le-max_left _ _) in
-        let less : worth v m < local_priority v.state (stored_at v) t = subst (λ n. worth v m < n) (had ∙ right) low in
+        let less : given v m < local_priority v.state (stored_at v) t = subst (λ n. given v m < n) (had ∙ right) low in
         omega (arith, under, less)
 
 -- the priority that an owned mutex gives isn't above its owner's local priority
-worth_under : (v : View) (t m : ℕ) → Ready v → owner_of v.state m ≡ Some t → worth v m ≤ local_priority v.state (stored_at v) t
-worth_under v t m ready mine =
+given_under : (v : View) (t m : ℕ) → Ready v → owner_of v.state m ≡ Some t → given v m ≤ local_priority v.state (stored_at v) t
+given_under v t m ready mine =
     let known = owned_mutex v.state m t ready.sound.lists mine in
-    le_trans (le-greatest_of (worth v) (λ k. holds (owner_of v.state k) t) (length v.state.protocol) m known.0 known.1 (holds_from (owner_of v.state m) t mine))
-    (subst (λ n. greatest_of (worth v) (λ k. holds (owner_of v.state k) t) (length v.state.protocol) ≤ n) (local_by_owned v t ready) (le-max_right _ _))
+    le_trans (le-greatest_of (given v) (λ k. holds (owner_of v.state k) t) (length v.state.protocol) m known.0 known.1 (holds_from (owner_of v.state m) t mine))
+    (subst (λ n. greatest_of (given v) (λ k. holds (owner_of v.state k) t) (length v.state.protocol) ≤ n) (local_by_owned v t ready) (le-max_right _ _))
 
 -- only the priority that one mutex gives its owner may change: it doesn't fall, nor rise above the owner's
-donated_settled :
+given_settled :
     (v w : View) (t m : ℕ)
     → Ready v
     → Ready w
@@ -150,13 +150,13 @@ donated_settled :
     → stored_at w t ≡ stored_at v t
     → SettledBut v.state (stored_at v) None
     → SettledBut w.state (stored_at w) (Some t)
-    → worth v m ≤ worth w m
-    → worth w m ≤ stored_at v t
+    → given v m ≤ given w m
+    → given w m ≤ stored_at v t
     → SettledBut w.state (stored_at w) None
-donated_settled v w t m ready after same was is had before but low high =
+given_settled v w t m ready after same was is had before but low high =
     (visited_same w t but (had ∙ right ∙ le_antisymm
-    (local_under v w t m _ ready after same (λ _. le_trans low (worth_under w t m after is)) (omega arith))
-    (local_under w v t m _ after ready (back same) (λ _. subst (λ n. worth w m ≤ n) right high) (omega arith)))).settled
+    (local_under v w t m _ ready after same (λ _. le_trans low (given_under w t m after is)) (omega arith))
+    (local_under w v t m _ after ready (back same) (λ _. subst (λ n. given w m ≤ n) right high) (omega arith)))).settled
   where
     right : stored_at v t ≡ local_priority v.state (stored_at v) t
     right = before t (ready.waits.owners m t was) (λ e. none-some t e)
@@ -170,7 +170,7 @@ alike_requeued v t x m o ws = record {
   base = refl;
   mutexes = refl;
   owner = λ k ne. refl;
-  worth = λ k ne.
+  given = λ k ne.
       ap (λ (q : QueueView). max (ceiling_of v.state k) (cond (is_some (heir_in (protocol_of v.state k) (owner_of v.state k))) (first_prio q.waiters) 0))
       (sym (view_other v.queues m k ws ne));
 }
@@ -184,12 +184,12 @@ first_prio-insert_by x (y ∷ ys) = go (precedes x y) refl
     go false behind = omega arith
 
 -- one more waiter doesn't lower the priority that a mutex gives
-worth_joined :
+given_joined :
     (v : View) (x m : ℕ) (o : Option Wait) (u : Waiter)
     → Ready v
     → IsMutex v.state m
-    → worth v m ≤ worth (requeued v x o m (insert_by precedes (queue_at v m) u)) m
-worth_joined v x m o u ready known = go (is_some (heir_of v.state m))
+    → given v m ≤ given (requeued v x o m (insert_by precedes (queue_at v m) u)) m
+given_joined v x m o u ready known = go (is_some (heir_of v.state m))
   where
     ws : List Waiter
     ws = insert_by precedes (queue_at v m) u
@@ -214,13 +214,13 @@ pub joined_settled :
     → owner_of v.state m ≡ Some t
     → SettledBut v.state (stored_at v) None
     → SettledBut w.state (stored_at w) (Some t)
-    → worth w m ≤ stored_at w t
+    → given w m ≤ stored_at w t
     → SettledBut w.state (stored_at w) None
 joined_settled v w x t m o u ready after is known owned before but low =
-    donated_settled v w t m ready after (subst (λ z. Alike v z t m) (sym is) (alike_requeued v t x m o _)) owned
+    given_settled v w t m ready after (subst (λ z. Alike v z t m) (sym is) (alike_requeued v t x m o _)) owned
     (ap (λ (z : View). owner_of z.state m) is ∙ owned) had before but
-    (subst (λ (z : View). worth v m ≤ worth z m) (sym is) (worth_joined v x m o u ready known))
-    (subst (λ n. worth w m ≤ n) had low)
+    (subst (λ (z : View). given v m ≤ given z m) (sym is) (given_joined v x m o u ready known))
+    (subst (λ n. given w m ≤ n) had low)
   where
     had : stored_at w t ≡ stored_at v t
     had = ap (λ (z : View). stored_at z t) is
@@ -255,18 +255,18 @@ is_some-heir_in Protocol.Inherit t = refl
 is_some-heir_in Protocol.InheritRecursive t = refl
 is_some-heir_in (Protocol.Protect c) t = refl
 
--- one waiter less doesn't raise the priority that a mutex gives, and lowers it only if that waiter donated as much
-record WorthLeft (before after donated : ℕ) : Type 0 where
+-- one waiter less doesn't raise the priority that a mutex gives, and lowers it only if that waiter gave as much
+record GivenLeft (before after by : ℕ) : Type 0 where
   less : after ≤ before
-  by_donated : before ≤ max after donated
+  by_left : before ≤ max after by
 
-worth_left :
+given_left :
     (v : View) (x t m : ℕ) (o : Option Wait)
     → Ready v
     → IsMutex v.state m
     → owner_of v.state m ≡ Some t
-    → WorthLeft (worth v m) (worth (requeued v x o m (without x (queue_at v m))) m) (donated_by v x m)
-worth_left v x t m o ready known owned = go (is_some (heir_of v.state m)) inherits
+    → GivenLeft (given v m) (given (requeued v x o m (without x (queue_at v m))) m) (given_by v x m)
+given_left v x t m o ready known owned = go (is_some (heir_of v.state m)) inherits
   where
     queue : IsQueue (wait_of v.state) (stored_at v) m (queue_at v m)
     queue = ready.queues m known
@@ -283,22 +283,22 @@ worth_left v x t m o ready known owned = go (is_some (heir_of v.state m)) inheri
     less : first_prio left ≤ first_prio (queue_at v m)
     less = first_prio-without x (queue_at v m) queue.ordered
 
-    by_donated : first_prio (queue_at v m) ≤ max (first_prio left) (stored_at v x)
-    by_donated = first_prio-le-without (wait_of v.state) (stored_at v) m x (queue_at v m) queue.sound
+    by_left : first_prio (queue_at v m) ≤ max (first_prio left) (stored_at v x)
+    by_left = first_prio-le-without (wait_of v.state) (stored_at v) m x (queue_at v m) queue.sound
 
     go :
         (b : Bool)
         → b ≡ is_inherit (protocol_of v.state m)
-        → WorthLeft (max (ceiling_of v.state m) (cond b (first_prio (queue_at v m)) 0))
+        → GivenLeft (max (ceiling_of v.state m) (cond b (first_prio (queue_at v m)) 0))
         (max (ceiling_of v.state m) (cond b (first_prio (queue_in (put_queue v.queues m left) m)) 0))
         (cond (is_inherit (protocol_of v.state m)) (stored_at v x) 0)
     go true is =
-        subst (λ b. WorthLeft (max (ceiling_of v.state m) (first_prio (queue_at v m)))
+        subst (λ b. GivenLeft (max (ceiling_of v.state m) (first_prio (queue_at v m)))
         (max (ceiling_of v.state m) (first_prio (queue_in (put_queue v.queues m left) m))) (cond b (stored_at v x) 0)) is
-        (record { less = omega (arith, less, now); by_donated = omega (arith, by_donated, now) })
-    go false is = record { less = omega arith; by_donated = omega arith }
+        (record { less = omega (arith, less, now); by_left = omega (arith, by_left, now) })
+    go false is = record { less = omega arith; by_left = omega arith }
 
--- one waiter less, which donated a lower priority than the owner has
+-- one waiter less, which gave a lower priority than the owner has
 pub left_settled :
     (v w : View) (x t m : ℕ) (o : Option Wait)
     → Ready v
@@ -308,11 +308,11 @@ pub left_settled :
     → owner_of v.state m ≡ Some t
     → SettledBut v.state (stored_at v) None
     → SettledBut w.state (stored_at w) (Some t)
-    → donated_by v x m < stored_at w t
+    → given_by v x m < stored_at w t
     → SettledBut w.state (stored_at w) None
 left_settled v w x t m o ready after is known owned before but low =
     (visited_same w t but (had ∙ right ∙ le_antisymm lower
-    (local_under w v t m _ after ready (back same) (λ _. le_trans worths.less (worth_under v t m ready owned)) (omega arith)))).settled
+    (local_under w v t m _ after ready (back same) (λ _. le_trans gives.less (given_under v t m ready owned)) (omega arith)))).settled
   where
     same : Alike v w t m
     same = subst (λ z. Alike v z t m) (sym is) (alike_requeued v t x m o _)
@@ -323,14 +323,14 @@ left_settled v w x t m o ready after is known owned before but low =
     right : stored_at v t ≡ local_priority v.state (stored_at v) t
     right = before t (ready.waits.owners m t owned) (λ e. none-some t e)
 
-    worths : WorthLeft (worth v m) (worth w m) (donated_by v x m)
-    worths = subst (λ (z : View). WorthLeft (worth v m) (worth z m) (donated_by v x m)) (sym is) (worth_left v x t m o ready known owned)
+    gives : GivenLeft (given v m) (given w m) (given_by v x m)
+    gives = subst (λ (z : View). GivenLeft (given v m) (given z m) (given_by v x m)) (sym is) (given_left v x t m o ready known owned)
 
     lower : local_priority v.state (stored_at v) t ≤ local_priority w.state (stored_at w) t
     lower =
-        let mine : worth w m ≤ local_priority w.state (stored_at w) t =
-        worth_under w t m after (ap (λ (z : View). owner_of z.state m) is ∙ owned) in
-        let under : local_priority v.state (stored_at v) t ≤ max (local_priority w.state (stored_at w) t) (donated_by v x m) =
-        local_under v w t m _ ready after same (λ _. omega (arith, worths.by_donated, mine)) (le-max_left _ _) in
-        let less : donated_by v x m < local_priority v.state (stored_at v) t = subst (λ n. donated_by v x m < n) (had ∙ right) low in
+        let mine : given w m ≤ local_priority w.state (stored_at w) t =
+        given_under w t m after (ap (λ (z : View). owner_of z.state m) is ∙ owned) in
+        let under : local_priority v.state (stored_at v) t ≤ max (local_priority w.state (stored_at w) t) (given_by v x m) =
+        local_under v w t m _ ready after same (λ _. omega (arith, gives.by_left, mine)) (le-max_left _ _) in
+        let less : given_by v x m < local_priority v.state (stored_at v) t = subst (λ n. given_by v x m < n) (had ∙ right) low in
         omega (arith, under, less)

@@ -5,7 +5,7 @@ ghost use Rattle.pim_base.specs.declared.limits.TheConstants.{MAX_TASKS};
 ghost use Rattle.pim_base.specs.State.{IsTask, IsMutex, owner_of, wait_of, with_owner, with_wait};
 ghost use Rattle.pim_base.specs.Chains.{leads_back};
 ghost use Rattle.pim_chain.specs.Views.{Ready, stored_at};
-ghost use Rattle.pim_chain.specs.Owned.{worth_to};
+ghost use Rattle.pim_chain.specs.Owned.{given_to};
 ghost use Rattle.pim_chain.specs.Settled.{SettledBut, changed};
 ghost use Rattle.pim_sets.specs.Work.{Tells};
 
@@ -31,8 +31,8 @@ impl Tables {
         ensures settled { SettledBut self.new.state (stored_at self.new) None }
         ensures ready { Ready self.new }
         ensures single { visits.new.count ≤ visits.old.count + 1 }
-        ensures skipped { worth_to self.old mutex task ≤ stored_at self.old task → visits.new.count ≡ visits.old.count }
-        ensures once { stored_at self.old task < worth_to self.old mutex task → visits.new.count ≡ visits.old.count + 1 }
+        ensures skipped { given_to self.old mutex task ≤ stored_at self.old task → visits.new.count ≡ visits.old.count }
+        ensures once { stored_at self.old task < given_to self.old mutex task → visits.new.count ≡ visits.old.count + 1 }
         ensures work { Tells (length self.old.state.base) (stored_at self.old) visits.old (stored_at self.new) visits.new }
     {
         // The contract of this call gives the proof the invariant of the tables.
@@ -82,8 +82,8 @@ impl Tables {
     /// Lets the task, whose wait this is, stop waiting for the mutex that has this owner, and restores all stored
     /// priorities. They must be settled before.
     ///
-    /// If the task donated a lower priority than the owner has, a comparison shows that nothing else changes. Else a
-    /// walk begins at the owner.
+    /// If the task gave less than the owner's priority, a comparison shows that nothing else changes. Else a walk begins
+    /// at the owner.
     #[inline(always)]
     pub fn withdraw(&mut self, task: TaskNo, wait: Wait, owner: TaskNo, visits: &mut Visits)
         requires settled { SettledBut self.old.state (stored_at self.old) None }
@@ -98,9 +98,9 @@ impl Tables {
     {
         // The contract of this call gives the proof the invariant of the tables.
         let _tasks = self.tasks();
-        let donated = self.donated_by(task, wait.mutex);
+        let given = self.given_by(task, wait.mutex);
         self.end_wait(task, wait.mutex, wait.ticket);
-        if self.known_stored(owner).get() <= donated {
+        if self.known_stored(owner).get() <= given {
             self.settle_from(owner, visits);
         }
     }

@@ -9,7 +9,7 @@ ghost use Rattle.pim_base.specs.State.{IsTask, owner_of, owned, wait_of, with_ow
 ghost use Rattle.pim_base.specs.Steps.{hand_over};
 ghost use Rattle.pim_base.specs.declared.steps.Waiter.{Waiter};
 ghost use Rattle.pim_chain.specs.Views.{Ready, stored_at};
-ghost use Rattle.pim_chain.specs.Owned.{worth, new_owner_visits, old_owner_visits};
+ghost use Rattle.pim_chain.specs.Owned.{given, new_owner_visits, old_owner_visits};
 ghost use Rattle.pim_chain.specs.Settled.{SettledBut, Unsettles, SettledIdle, HandedAll};
 ghost use Rattle.pim_sets.specs.Work.{Tells, VisitedOnce};
 
@@ -20,6 +20,9 @@ use pim_sets::{Owned, put};
 
 impl Tables {
     // Stores the local priority of a task that waits for nothing. This is one visit.
+    //
+    // It is [2] and [3] of the walk again. A walk begins with one task unsettled, and within a hand-over there are two:
+    // the new owner, and the old one. No priority depends on a task that waits for nothing, so no further step is due.
     fn settle_idle(&mut self, task: TaskNo, visits: &mut Visits)
         requires known { IsTask self.old.state task }
         requires idle { wait_of self.old.state task ≡ None }
@@ -82,7 +85,7 @@ impl Tables {
         ensures new_owner { result ≡ option_map (λ (w : Waiter). w.task) (first_of self.old.state mutex) }
         ensures state { self.new.state ≡ hand_over self.old.state mutex }
         ensures settled { SettledBut self.new.state (stored_at self.new) (Some owner) }
-        ensures stays_settled { worth self.old mutex < stored_at self.old owner → Unsettles self.old self.new None }
+        ensures stays_settled { given self.old mutex < stored_at self.old owner → Unsettles self.old self.new None }
         ensures owns_no_more { owner_of self.new.state mutex ≢ Some owner }
         ensures work { Tells (length self.old.state.base) (stored_at self.old) visits.old (stored_at self.new) visits.new }
         ensures counted { visits.new.count ≡ visits.old.count + new_owner_visits self.old self.new mutex }

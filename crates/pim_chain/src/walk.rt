@@ -7,7 +7,7 @@ ghost use Rattle.pim_base.specs.Chains.{heir};
 ghost use Rattle.pim_base.specs.Priorities.{local_priority, effective_priority};
 ghost use Rattle.pim_base.specs.Queues.{queue_of};
 ghost use Rattle.pim_chain.specs.Views.{Ready, stored_at, queue_at, first_prio};
-ghost use Rattle.pim_chain.specs.Owned.{worth, donated_by};
+ghost use Rattle.pim_chain.specs.Owned.{given, given_by};
 ghost use Rattle.pim_chain.specs.Settled.{SettledBut, Visited, next_of, changed};
 ghost use Rattle.pim_sets.specs.Work.{Tells, VisitedOnce};
 
@@ -29,7 +29,7 @@ impl Tables {
     #[inline(always)]
     fn given(&self, mutex: MutexNo) -> Option<Prio>
         requires { owner_of self.now.state mutex ≢ None }
-        ensures { unwrap_or result 0 ≡ worth self.now mutex }
+        ensures { unwrap_or result 0 ≡ given self.now mutex }
     {
         // The contract of this call gives the proof the invariant of the tables.
         let _tasks = self.tasks();
@@ -44,7 +44,7 @@ impl Tables {
     #[inline(always)]
     pub(crate) fn given_level(&self, mutex: MutexNo) -> u16
         requires { owner_of self.now.state mutex ≢ None }
-        ensures { result ≡ worth self.now mutex }
+        ensures { result ≡ given self.now mutex }
     {
         self.given(mutex).map_or(0, |prio| prio.get())
     }
@@ -54,18 +54,18 @@ impl Tables {
     pub(crate) fn gives_no_more(&self, mutex: MutexNo, task: TaskNo) -> bool
         requires owned { owner_of self.now.state mutex ≢ None }
         requires known { IsTask self.now.state task }
-        ensures { IsTrue result ↔ (worth self.now mutex ≤ stored_at self.now task) }
+        ensures { IsTrue result ↔ (given self.now mutex ≤ stored_at self.now task) }
     {
         self.given_level(mutex) <= self.known_stored(task).get()
     }
 
-    // Returns the level that a known task donates to the owner of the known mutex that it waits for, or 0 unless that is
-    // an INHERIT one.
+    // Returns the level that a known task gives the owner of the known mutex that it waits for, or 0 unless that is an
+    // INHERIT one.
     #[inline(always)]
-    pub(crate) fn donated_by(&self, task: TaskNo, mutex: MutexNo) -> u16
+    pub(crate) fn given_by(&self, task: TaskNo, mutex: MutexNo) -> u16
         requires known { IsTask self.now.state task }
         requires mutex { IsMutex self.now.state mutex }
-        ensures { result ≡ donated_by self.now task mutex }
+        ensures { result ≡ given_by self.now task mutex }
     {
         if self.known_protocol(mutex).is_inherit() {
             self.known_stored(task).get()
