@@ -1,7 +1,7 @@
 """How long lower threads can block each thread, from the sections that were recorded.
 
-The bounds are those of docs/BLOCKING.md, with one difference: a section counts with what its
-thread used, without the time for which that thread was on no CPU.
+docs/FINDINGS.md defines them, and says what they assume. A section counts with what its thread
+used, without the time for which that thread was on no CPU.
 """
 from collections import defaultdict, namedtuple
 

@@ -1,4 +1,4 @@
-/* Goes through the records, and says what happened at each: the table of docs/FINDINGS.md. */
+/* Goes through the records, and says what happened at each: the table of FACTS-OF-LOGS.md. */
 #define _GNU_SOURCE
 #include "told.h"
 

@@ -1,4 +1,4 @@
-/* What happened to the threads of a log, by docs/FINDINGS.md and docs/OTHER-WAITS.md. */
+/* What happened to the threads of a log, by FACTS-OF-LOGS.md. */
 #ifndef PIM_FACTS_TOLD_H
 #define PIM_FACTS_TOLD_H
 
