@@ -1,5 +1,5 @@
-/* The trace hooks of a made-up RTOS: they print facts as text, which pim-report --facts reads.
- * docs/FACTS.md says what the lines are. The RTOS calls each hook with the scheduler locked, and
+/* The trace hooks of a made-up RTOS: they print facts as text, which pim-import --facts reads.
+ * docs/IMPORT-FACTS.md says what the lines are. The RTOS calls each hook with the scheduler locked, and
  * tells threads and mutexes by their numbers from 1 on. */
 #include <stdio.h>
 

@@ -1,5 +1,6 @@
-/* late: servo (80) and logger (10) share a mutex, and planner (40) computes, all on one CPU. The mutex
- * passes no priority on: planner keeps logger from its unlock, and servo waits for both.
+/* late [inherit]: servo (80) and logger (10) share a mutex, and planner (40) computes, all on one
+ * CPU. The mutex passes no priority on: planner keeps logger from its unlock, and servo waits for
+ * both. With `inherit` logger runs at 80 while servo waits.
  *
  *     cc -g -pthread late.c -o late
  *
@@ -11,14 +12,13 @@
 #include <stdlib.h>
 #include <time.h>
 
-static pthread_mutex_t state_lock = PTHREAD_MUTEX_INITIALIZER;
+static pthread_mutex_t state_lock;
 
+/* Computes for so long, by the time that the thread is on a CPU. */
 static void compute(long milliseconds) {
-    struct timespec begin, now;
-    clock_gettime(CLOCK_MONOTONIC, &begin);
-    do clock_gettime(CLOCK_MONOTONIC, &now);
-    while ((now.tv_sec - begin.tv_sec) * 1000 + (now.tv_nsec - begin.tv_nsec) / 1000000 <
-           milliseconds);
+    struct timespec used;
+    do clock_gettime(CLOCK_THREAD_CPUTIME_ID, &used);
+    while (used.tv_sec * 1000 + used.tv_nsec / 1000000 < milliseconds);
 }
 
 static void *save_state(void *unused) {
@@ -41,8 +41,15 @@ static void *step(void *unused) {
 
 static void demand(int error) {
     if (error == 0) return;
-    fprintf(stderr, "late: error %d; SCHED_FIFO takes root, CAP_SYS_NICE or `ulimit -r 99`\n", error);
+    fprintf(stderr, "late: error %d; it takes root, CAP_SYS_NICE or `ulimit -r 99`\n", error);
     exit(1);
+}
+
+static void make_lock(int protocol) {
+    pthread_mutexattr_t attributes;
+    pthread_mutexattr_init(&attributes);
+    pthread_mutexattr_setprotocol(&attributes, protocol);
+    pthread_mutex_init(&state_lock, &attributes);
 }
 
 static pthread_t start(const char *name, int priority, void *(*routine)(void *)) {
@@ -58,13 +65,15 @@ static pthread_t start(const char *name, int priority, void *(*routine)(void *))
     return thread;
 }
 
-int main(void) {
+int main(int count, char **arguments) {
+    (void)arguments;
+    struct sched_param highest = { .sched_priority = 90 };
     cpu_set_t one;
     CPU_ZERO(&one);
     CPU_SET(0, &one);
     sched_setaffinity(0, sizeof one, &one);
-    demand(pthread_setschedparam(pthread_self(), SCHED_FIFO,
-                                 &(struct sched_param){ .sched_priority = 90 }));
+    demand(pthread_setschedparam(pthread_self(), SCHED_FIFO, &highest));
+    make_lock(count > 1 ? PTHREAD_PRIO_INHERIT : PTHREAD_PRIO_NONE);
     pthread_t logger = start("logger", 10, save_state);
     nanosleep(&(struct timespec){ .tv_nsec = 1000000 }, NULL);
     pthread_t servo = start("servo", 80, step), planner = start("planner", 40, plan);
