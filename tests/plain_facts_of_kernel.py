@@ -7,11 +7,13 @@ from record_logs import reader
 
 kernel_text = reader.kernel_text
 RUNS, ON, READY, ASLEEP, WAKE, LOST = "runs", "on", "off ready", "off asleep", "wake", "lost"
-FUTEX, FUTEX_ENDS = "blocks", "resumes"
+FUTEX, FUTEX_ENDS, LOCK, LOCK_FAILS = "blocks", "resumes", "waits", "gave-up"
 MOST_CPU = 65535
-# `task` is None of LOST. `value` is a level, a CPU, a number of events or the address of a futex.
+# `task` is None of LOST. `value` is a level, a CPU, a number of events, the address of a futex, or the record of a call
+# for a mutex.
 Fact = namedtuple("Fact", "time what task value by how", defaults=(None, None))
-Wait = namedtuple("Wait", "task begin end address outcome by began until")
+# `slept` is the first line by which its task sleeps, `record` that of the log for a wait for a mutex, or None.
+Wait = namedtuple("Wait", "task begin slept end address outcome by began until record")
 
 
 def level_of(priority):
@@ -23,7 +25,7 @@ class Waits(plain_futex_waits.Text):
 
     def all(self):
         for begin, line in enumerate(self.lines):
-            found = self.end_of(begin) if line.what == "wait" and line.task else None
+            found = self.end_of(begin) if line.what in ("wait", "lock", "lock2") and line.task else None
             if found is None:
                 continue
             end, outcome = found
@@ -36,15 +38,15 @@ class Waits(plain_futex_waits.Text):
             by = wakers[-1] if outcome == "woken" and wakers else None
             is_open = end == len(self.lines)
             until = self.ended if is_open else self.lines[end].time
-            yield Wait(line.task, begin, None if is_open else end, int(line.words[0], 16), outcome, by, line.time,
-                       until)
+            yield Wait(line.task, begin, asleep[0], None if is_open else end, int(line.words[0], 16), outcome, by,
+                       line.time, until, None)
 
 
 class Kernel:
     """A recording of the kernel's events, from a time on. `logged` has the times (task, begin, end) in which the log
-    has waits."""
+    has waits. `record_of` returns the log's record of a call for a mutex, by task, address and time."""
 
-    def __init__(self, data, began, logged):
+    def __init__(self, data, began, logged, record_of):
         text = data.decode("latin-1")
         text = text[:text.rindex("\n") + 1]
         self.began = kernel_text.KernelText(data).head.began if began is None else began
@@ -60,12 +62,18 @@ class Kernel:
         self.losses = sorted((event.values[1], event.time, event.values[0]) for event in whole.lost())
         waits = Waits("".join(f"{line}\n" for line in kept))
         waits.ended = self.ended
-        self.waits = [wait for wait in waits.all() if self.is_kept(wait, logged)]
+        found = (wait._replace(record=self.record_at(wait, waits.lines, record_of)) for wait in waits.all())
+        self.waits = [wait for wait in found if self.is_kept(wait, logged)]
+
+    @staticmethod
+    def record_at(wait, lines, record_of):
+        is_lock = lines[wait.begin].what != "wait"
+        return record_of(wait.task, wait.address, lines[wait.slept].time) if is_lock else None
 
     def is_kept(self, wait, logged):
-        """Returns whether nothing was lost in a wait, and the log hasn't one of the same time."""
+        """Returns whether nothing was lost in a wait, and the log hasn't one of the same time, if it is for a futex."""
         times = [(begin, end) for begin, end, _ in self.losses]
-        times += [(begin, end) for task, begin, end in logged if task == wait.task]
+        times += [(begin, end) for task, begin, end in logged if task == wait.task and wait.record is None]
         return not any(begin <= wait.until and wait.began <= end for begin, end in times)
 
     def shown(self):
@@ -107,7 +115,10 @@ class Kernel:
 
     def facts_of(self, at, event):
         for wait in self.waits:
-            if wait.end == at:
+            if wait.end == at and wait.record:
+                if wait.outcome in ("timed out", "interrupted"):
+                    yield Fact(event.time, LOCK_FAILS, wait.task, wait.record)
+            elif wait.end == at:
                 how = {"timed out": "timed-out", "interrupted": "failed"}.get(wait.outcome)
                 yield Fact(event.time, FUTEX_ENDS, wait.task, wait.address, wait.by, how)
         if event.what == "switch":
@@ -122,5 +133,7 @@ class Kernel:
         elif event.what == "wake":
             yield Fact(event.time, WAKE, event.values[0], None)
         for wait in self.waits:
-            if wait.begin == at:
+            if wait.slept == at and wait.record:
+                yield Fact(event.time, LOCK, wait.task, wait.record)
+            elif wait.begin == at and not wait.record:
                 yield Fact(event.time, FUTEX, wait.task, wait.address)

@@ -138,7 +138,7 @@ def numbers_of(log, others):
 
 # ---- waits for what isn't a mutex
 
-Block = namedtuple("Block", "begin behind end thread object how by")
+Block = namedtuple("Block", "begin behind end thread object how gift")
 
 
 class Blocks(plain_other_waits.Waits):
@@ -161,9 +161,8 @@ class Blocks(plain_other_waits.Waits):
         number = 6 if record.event == reader.CONDITION else record.detail
         word = KINDS.get(number) or reader.KINDS[number]
         how = {"timed out": "timed-out", plain_other_waits.FAILED: "failed"}.get(outcome)
-        by = None if gift is None else self.records[gift].chunk.thread
         return Block(record, behind.number, None if end is None else self.records[end].number, thread,
-                     (record.chunk.process, word, record.object), how, by)
+                     (record.chunk.process, word, record.object), how, None if gift is None else self.records[gift])
 
     def all(self):
         begins = [at for at, record in enumerate(self.records) if record.event in (reader.WAIT, reader.CONDITION)]
@@ -210,8 +209,8 @@ def facts_of(whole, log, blocks):
     facts = []
     for record in log.records:
         number = record.number
-        facts += [Fact(record, block.thread, RESUMES, block.object, owner=block.by, how=block.how)
-                  for block in blocks if block.end == number]
+        facts += [Fact(record, block.thread, RESUMES, block.object, block.gift,
+                       block.gift and block.gift.chunk.thread, how=block.how) for block in blocks if block.end == number]
         facts += told.get(number, [])
         facts += [Fact(record, block.thread, BLOCKS, block.object, block.begin) for block in blocks
                   if block.behind == number]
@@ -230,31 +229,46 @@ class Writer:
         self.facts = facts_of(whole, self.log, blocks)
         self.began, self.ended = whole.head.began, max([whole.head.began, *(one.time for one in self.log.records)])
         self.kernel, self.kernel_facts = None, []
-        self.tasks = {task: thread for thread, (_, task) in sorted(self.log.identity.items(), reverse=True)}
+        tasks = [task for _, task in self.log.identity.values()]
+        self.shared = {task for task in tasks if tasks.count(task) > 1}
+        self.tasks = {task: thread for thread, (_, task) in sorted(self.log.identity.items())
+                      if task not in self.shared}
         if kernel is not None:
             self.read_kernel(kernel)
-        others = [task for task in (self.kernel.shown() if self.kernel else ()) if task not in self.tasks]
+        others = [task for task in (self.kernel.shown() if self.kernel else ())
+                  if task not in self.tasks and task not in self.shared]
         self.numbers = numbers_of(self.log, others)
         self.tasks.update({task: (OTHER, task) for task in others if (OTHER, task) in self.numbers})
-        waits = [wait for wait in self.kernel.waits if wait.task in self.shown] if self.kernel else []
+        waits = [wait for wait in self.kernel.waits if wait.task in self.shown and not wait.record] if self.kernel else []
         futexes = [wait.address for wait in sorted(waits, key=lambda wait: wait.begin)]
         self.objects = numbered([*(block.object for block in blocks), *futexes])
         self.runs, self.on = {}, {}       # by thread its level in the kernel, its CPU
         self.lines, self.now, self.at = ["facts 1"], 0, 0
         self.owner, self.awaits, self.blocked = {}, {}, {}
+        self.of_kernel = set()             # threads that wait for a mutex by the kernel's events alone
         self.early, self.ceiling = {}, {}  # by mutex a release that is still to come; the last ceiling
+        self.to_come = {}                  # by thread the end of its wait for an object, or None
         self.owned_before, self.is_unknown_declared = set(), False
         self.level = {thread: clamped(self.log.first_level.get(thread, 0)) for thread in self.log.identity}
 
     def read_kernel(self, data):
         """Reads the kernel's events. Without a log, the recording begins as they do."""
         is_alone = not self.whole.records and self.whole.head.process is None
-        kernel = plain_kernel.Kernel(data, None if is_alone else self.began, list(self.logged()))
+        kernel = plain_kernel.Kernel(data, None if is_alone else self.began, list(self.logged()), self.record_of)
         if is_alone:
             self.began = self.ended = kernel.began
         self.kernel, self.kernel_facts = kernel, list(kernel.facts())
         self.ended = max(self.ended, kernel.ended)
-        self.shown = {*self.tasks, *kernel.shown()}
+        self.shown = {*self.tasks, *kernel.shown()} - self.shared
+
+    def record_of(self, task, address, slept):
+        """Returns the record of a call in which a task slept, if it is for a mutex: the next one of its thread, or its
+        last one."""
+        records = [record for record in self.log.records if record.chunk.thread == self.tasks.get(task)]
+        behind = [record for record in records if record.time >= slept]
+        found = [*behind[:1], *records[-1:]][:1]
+        of_address = [record for record in found if record.object == address and record.number in self.log.mutexes.of]
+        return of_address[0] if of_address else None
 
     def logged(self):
         """Yields the task, the begin and the end of each wait in the log."""
@@ -361,7 +375,7 @@ class Writer:
             self.put(thread, "resumes", self.objects[self.blocked.pop(thread)])
 
     def lose(self, thread, mutex, said=None):
-        awaited, blocked = self.awaits.get(thread), self.blocked.get(thread)
+        awaited, blocked, before = self.awaits.get(thread), self.blocked.get(thread), self.own(thread)
         self.give_up(thread)
         self.resume(thread)
         self.put(thread, "released", self.mutexes[mutex], said=said)
@@ -372,6 +386,7 @@ class Writer:
         if blocked is not None:
             self.blocked[thread] = blocked
             self.put(thread, "blocks", self.objects[blocked])
+        self.follow(thread, before)
 
     # ---- facts
 
@@ -386,8 +401,10 @@ class Writer:
         is_try = fact is not None and fact.record.how & log_facts.CALL == log_facts.TRYLOCK
         word = "took" if is_try and thread not in self.awaits else "granted"
         self.put(thread, word, self.mutexes[mutex], said=fact and fact.said)
+        before = self.own(thread)
         self.owner[mutex] = thread
         self.awaits.pop(thread, None)
+        self.follow(thread, before)
         self.owned_before.add((thread, mutex))
 
     def mend(self, fact):
@@ -413,6 +430,10 @@ class Writer:
     def waits(self, fact):
         thread, mutex = fact.thread, fact.mutex
         self.catch_up(thread)
+        is_told = thread in self.of_kernel and thread in self.awaits and self.awaits[thread][0] == mutex
+        self.of_kernel.discard(thread)
+        if is_told and not fact.is_own:
+            return
         self.give_up(thread)
         self.resume(thread)
         if mutex not in self.owner and not fact.is_own:
@@ -446,28 +467,45 @@ class Writer:
         self.resume(fact.thread)
         self.put(fact.thread, "blocks", self.objects[fact.mutex], said=fact.said)
         self.blocked[fact.thread] = fact.mutex
+        ends = self.behind((BLOCKS, RESUMES), thread=fact.thread)
+        is_end = ends < len(self.facts) and self.facts[ends].what == RESUMES
+        self.to_come[fact.thread] = self.facts[ends] if is_end else None
 
     def resumes(self, fact):
         if self.blocked.get(fact.thread) != fact.mutex:
             return
         del self.blocked[fact.thread]
         by = ["by", self.numbers[fact.owner]] if fact.owner else []
-        self.put(fact.thread, "resumes", self.objects[fact.mutex], *by, *([fact.how] if fact.how else []))
+        self.put(fact.thread, "resumes", self.objects[fact.mutex], *by, *([fact.how] if fact.how else []),
+                 said=fact.said)
 
     def priority(self, fact):
-        level, before = clamped(fact.level), self.level[fact.thread]
-        if before == level:
+        level, before = clamped(fact.level), self.own(fact.thread)
+        if self.level[fact.thread] == level:
             return
         self.level[fact.thread] = level
         self.put(fact.thread, "priority", level)
-        runs = self.runs.get(fact.thread)
-        if runs is not None and (runs == before or runs < level):
-            self.runs_at(fact.thread, level)
+        self.follow(fact.thread, before)
 
     # ---- what the kernel did
 
+    def own(self, thread):
+        """Returns the greatest of a thread's level and the ceilings of what it owns."""
+        owned = [mutex for mutex, owner in self.owner.items() if owner == thread]
+        return max([self.level.get(thread, 0), *(self.ceiling.get(mutex, 0) for mutex in owned)])
+
+    def follow(self, thread, before):
+        """The kernel follows where a thread's own level changes, unless the thread has a boost."""
+        after, runs = self.own(thread), self.runs.get(thread)
+        if after != before and runs is not None and (runs == before or runs < after):
+            self.runs_at(thread, after)
+
     def runs_at(self, thread, level):
-        if self.runs.get(thread) != level:
+        if isinstance(thread, tuple):
+            if self.level[thread] != level:
+                self.level[thread] = level
+                self.put(thread, "priority", level)
+        elif self.runs.get(thread) != level:
             self.runs[thread] = level
             self.put(thread, "runs", level)
 
@@ -504,12 +542,34 @@ class Writer:
             by = self.tasks.get(fact.by)
             words = ["by", self.numbers[by]] if by is not None else [fact.how] if fact.how else []
             self.put(thread, "resumes", self.objects[fact.value], *words)
+        elif fact.what == plain_kernel.LOCK:
+            self.waits_by_kernel(thread, fact.value)
+        elif fact.what == plain_kernel.LOCK_FAILS and thread in self.of_kernel and thread in self.awaits:
+            if self.awaits[thread][0] == self.log.mutexes.of[fact.value.number]:
+                self.give_up(thread)
+
+    def waits_by_kernel(self, thread, record):
+        """A thread sleeps in the call for a mutex of which this is the record. What it was blocked at has ended."""
+        mutex = self.log.mutexes.of[record.number]
+        self.catch_up(thread)
+        if thread in self.awaits or self.owner.get(mutex) == thread:
+            return
+        if thread in self.blocked and self.to_come.get(thread):
+            self.resumes(self.to_come[thread])
+        self.resume(thread)
+        self.put(thread, "waits", self.mutexes[mutex], said=record)
+        self.awaits[thread] = mutex, False
+        self.of_kernel.add(thread)
 
     def has_ceiling(self, fact):
         level = clamped(fact.level)
-        if self.ceiling[fact.mutex] != level:
-            self.ceiling[fact.mutex] = level
-            self.put(fact.thread, "ceiling", self.mutexes[fact.mutex], level)
+        if self.ceiling[fact.mutex] == level:
+            return
+        owner = self.owner.get(fact.mutex)
+        before = self.own(owner)
+        self.put(fact.thread, "ceiling", self.mutexes[fact.mutex], level)
+        self.ceiling[fact.mutex] = level
+        self.follow(owner, before)
 
     def all(self):
         """Returns the lines."""

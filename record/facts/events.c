@@ -101,8 +101,8 @@ static void read_name(struct line *line) {
     if (length > 16) line->is_wrong = true;
 }
 
-static void read_call(struct line *line, struct kernel_event *event, bool is_wait) {
-    event->what = is_wait ? WAIT_CALL : CALL;
+static void read_call(struct line *line, struct kernel_event *event, enum event_what what) {
+    event->what = (uint8_t)what;
     demand(line, " ");
     event->value = hexadecimal(line);
     if (!take(line, " private")) demand(line, " shared");
@@ -137,11 +137,12 @@ static void read_event(struct line *line, struct kernel_event *event, const char
         event->what = LOSS;
         event->value = next_number(line);
         event->since = next_number(line);
-    } else if (take(line, " lock2") || take(line, " lock") || take(line, " unlock") ||
-               take(line, " trylock")) {
-        read_call(line, event, false);
+    } else if (take(line, " lock2") || take(line, " lock")) {
+        read_call(line, event, LOCK_CALL);
+    } else if (take(line, " unlock") || take(line, " trylock")) {
+        read_call(line, event, CALL);
     } else if (!is_first && take(line, " wait")) {
-        read_call(line, event, true);
+        read_call(line, event, WAIT_CALL);
     } else {
         line->is_wrong = true;
     }

@@ -4,11 +4,11 @@
 
 #include "common.h"
 
-enum event_what { SWITCH, SETPRIO, CALL, WAIT_CALL, RETURN, WOKEN, NAMED, LOSS };
+enum event_what { SWITCH, SETPRIO, CALL, LOCK_CALL, WAIT_CALL, RETURN, WOKEN, NAMED, LOSS };
 
 struct kernel_event {
     uint64_t time;
-    uint64_t value; /* WAIT_CALL: the address; LOSS: how many; NAMED: the offset of the name */
+    uint64_t value; /* of a call: the address; LOSS: how many; NAMED: the offset of the name */
     uint64_t since; /* LOSS: the time of the first */
     int64_t result; /* RETURN */
     uint32_t cpu, task, other;  /* SWITCH, SETPRIO, WOKEN, NAMED: the other task */

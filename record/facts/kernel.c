@@ -7,6 +7,8 @@
 #include <errno.h>
 #include <stdlib.h>
 
+enum { SHARED = NONE - 1 }; /* in place of a thread: several had its task */
+
 /* What a task's call of a futex has come to. */
 struct futex_call {
     uint32_t begin, slept, waker; /* events, a task; or NONE */
@@ -15,6 +17,7 @@ struct futex_call {
 struct futex_wait {
     uint32_t begin, end; /* events; the end may be NONE */
     uint32_t object, waker;
+    uint32_t record; /* of the call for a mutex, or NONE: it is for a futex that isn't one */
     uint16_t flags;
 };
 
@@ -40,10 +43,17 @@ struct reading {
     struct interval *intervals;
     uint32_t *begins, *ends; /* by event the wait that it begins or ends, or NONE */
     bool *leaves;            /* by event: the task that it puts on a CPU is seen to leave */
+    uint32_t *reached;       /* by thread the last of its records before its last call, or NONE */
     uint32_t loss_count, wait_count, interval_count;
 };
 
 /* ---- threads ---- */
+
+/* Returns the thread that has a task, or NONE. */
+static uint32_t thread_of(const struct reading *reading, uint32_t task) {
+    uint32_t thread = task ? table_get(&reading->tasks, task, 0) : NONE;
+    return thread == SHARED ? NONE : thread;
+}
 
 static void add_thread(struct reading *reading, uint32_t task, uint8_t level) {
     struct log *log = reading->log;
@@ -56,15 +66,15 @@ static void add_thread(struct reading *reading, uint32_t task, uint8_t level) {
     *thread = log->thread_count++;
 }
 
-/* Finds the threads of the log, and adds those that run or ran. */
+/* Finds the threads of the log, and adds those that run or ran. What a task did that several
+ * threads of the log had in turn isn't told of any. */
 static void find_threads(struct reading *reading) {
     struct log *log = reading->log;
     uint32_t known = reading->kernel->first_other = log->thread_count;
     for (uint32_t i = 0; i < known; i++) {
-        uint32_t *thread = table_at(&reading->tasks, log->threads[i].task, 0);
         if (log->threads[i].first == NONE) continue;
-        if (*thread == NONE || log->threads[i].log_number < log->threads[*thread].log_number)
-            *thread = i;
+        uint32_t *thread = table_at(&reading->tasks, log->threads[i].task, 0);
+        *thread = *thread == NONE ? i : SHARED;
     }
     for (uint32_t i = 0; i < reading->events.count; i++) {
         const struct kernel_event *event = &reading->events.list[i];
@@ -75,7 +85,7 @@ static void find_threads(struct reading *reading) {
     for (uint32_t i = 0; i < reading->events.count; i++) {
         const struct kernel_event *event = &reading->events.list[i];
         if (event->what != NAMED) continue;
-        uint32_t thread = table_get(&reading->tasks, event->other, 0);
+        uint32_t thread = thread_of(reading, event->other);
         if (thread == NONE || thread < known) continue;
         const char *name = reading->events.bytes + event->value;
         log->names = with_room(log->names, log->name_count, sizeof *log->names);
@@ -180,28 +190,50 @@ static bool is_logged(const struct reading *reading, uint32_t thread, uint64_t b
 
 /* ---- waits for futexes ---- */
 
+/* Returns the record that says for which mutex a call of FUTEX_LOCK_PI slept: its thread's next
+ * one, which ends the call, or its last one, if none follows. NONE: it is of no mutex. */
+static uint32_t record_of(struct reading *reading, uint32_t thread,
+                          const struct futex_call *call) {
+    const struct log *log = reading->log;
+    const struct kernel_event *list = reading->events.list;
+    if (list[call->begin].what != LOCK_CALL || log->threads[thread].first == NONE) return NONE;
+    uint32_t *reached = &reading->reached[thread], next;
+    for (next = *reached == NONE ? log->threads[thread].first : log->next[*reached];
+         next != NONE && record_at(log, next)->time < list[call->slept].time;
+         next = log->next[next])
+        *reached = next;
+    uint32_t record = next == NONE ? *reached : next;
+    if (record == NONE || log->mutex_of[record] == NONE) return NONE;
+    return address_of(log, record_at(log, record)) == list[call->begin].value ? record : NONE;
+}
+
 /* Keeps a wait, unless it is in the log, or something was lost meanwhile. */
 static void keep_wait(struct reading *reading, const struct futex_call *call, uint32_t end,
                       uint16_t flags, bool is_woken) {
     const struct kernel_event *list = reading->events.list, *begin = &list[call->begin];
     uint64_t until = end == NONE ? reading->events.ended : list[end].time;
-    uint32_t thread = table_get(&reading->tasks, begin->task, 0);
+    uint32_t thread = thread_of(reading, begin->task);
     uint32_t before = losses_until(reading, until, true);
     bool is_lost = before && reading->losses[before - 1].end >= begin->time;
     if (call->slept == NONE || thread == NONE || is_lost) return;
-    if (is_logged(reading, thread, begin->time, until)) return;
+    uint32_t record = record_of(reading, thread, call);
+    if (record == NONE && is_logged(reading, thread, begin->time, until)) return;
     reading->waits = with_room(reading->waits, reading->wait_count, sizeof *reading->waits);
-    reading->begins[call->begin] = reading->wait_count;
+    reading->begins[record == NONE ? call->begin : call->slept] = reading->wait_count;
     if (end != NONE) reading->ends[end] = reading->wait_count;
     uint32_t waker = is_woken ? call->waker : NONE;
     reading->waits[reading->wait_count++] =
-        (struct futex_wait){ call->begin, end, NONE, waker, flags };
+        (struct futex_wait){ call->begin, end, NONE, waker, record, flags };
 }
 
 /* Returns how a wait ended that returned this. */
 static uint16_t how_ended(int64_t result) {
     if (result >= 0) return 0;
     return result == -ETIMEDOUT ? IS_TIMED_OUT : HAS_FAILED;
+}
+
+static bool is_call(const struct kernel_event *event) {
+    return event->what == CALL || event->what == LOCK_CALL || event->what == WAIT_CALL;
 }
 
 /* Ends or goes on with the call of a task. Returns whether it has ended. */
@@ -212,11 +244,11 @@ static bool go_on(struct reading *reading, struct futex_call *call, uint32_t at)
     bool is_asleep = event->what == SWITCH && event->state[1] == 0 &&
                      (event->state[0] == 'S' || event->state[0] == 'D');
     if (is_asleep && call->slept == NONE) call->slept = at;
-    if (event->what == CALL || event->what == WAIT_CALL) keep_wait(reading, call, at, 0, false);
+    if (is_call(event)) keep_wait(reading, call, at, 0, false);
     if (event->what == RETURN && event->result != -EAGAIN)
         keep_wait(reading, call, at, how_ended(event->result), event->result >= 0);
     if (is_dead) keep_wait(reading, call, at, HAS_FAILED, false);
-    return is_dead || event->what == CALL || event->what == WAIT_CALL || event->what == RETURN;
+    return is_dead || is_call(event) || event->what == RETURN;
 }
 
 /* Notes who wakes a task that sleeps in its call. */
@@ -247,7 +279,8 @@ static void find_futex_waits(struct reading *reading) {
         }
         struct futex_call *call = &calls[*number];
         if (call->begin != NONE && go_on(reading, call, i)) call->begin = NONE;
-        if (event->what == WAIT_CALL) *call = (struct futex_call){ i, NONE, NONE };
+        if (event->what == WAIT_CALL || event->what == LOCK_CALL)
+            *call = (struct futex_call){ i, NONE, NONE };
         if (event->what == WOKEN) wake(&calling, calls, event);
     }
     for (uint32_t i = 0; i < count; i++)
@@ -260,6 +293,8 @@ static void add_objects(struct reading *reading) {
     struct told *told = reading->told;
     for (uint32_t i = 0; i < reading->events.count; i++) {
         if (reading->begins[i] == NONE) continue;
+        struct futex_wait *wait = &reading->waits[reading->begins[i]];
+        if (wait->record != NONE) continue;
         uint64_t address = reading->events.list[i].value;
         uint32_t *object = table_at(&known, address, 0);
         if (*object == NONE) {
@@ -267,7 +302,7 @@ static void add_objects(struct reading *reading) {
             told->objects[told->object_count] = (struct object){ address, NONE, KIND_FUTEX };
             *object = told->object_count++;
         }
-        reading->waits[reading->begins[i]].object = *object;
+        wait->object = *object;
     }
 }
 
@@ -295,8 +330,8 @@ static struct kernel_fact *put(struct reading *reading, const struct kernel_even
                                uint32_t task, enum kernel_what what) {
     static struct kernel_fact unused;
     struct kernel *kernel = reading->kernel;
-    uint32_t thread = table_get(&reading->tasks, task, 0);
-    if (task == 0 || thread == NONE) return &unused;
+    uint32_t thread = thread_of(reading, task);
+    if (thread == NONE) return &unused;
     kernel->facts = with_room(kernel->facts, kernel->count, sizeof *kernel->facts);
     struct kernel_fact *fact = &kernel->facts[kernel->count++];
     *fact = (struct kernel_fact){
@@ -322,24 +357,37 @@ static void put_switch(struct reading *reading, const struct kernel_event *event
     if (leaves) put(reading, event, event->other, ON)->value = event->cpu;
 }
 
+/* A wait begins at an event. That for a mutex does when its thread sleeps. */
+static void put_begin(struct reading *reading, const struct kernel_event *event,
+                      const struct futex_wait *wait) {
+    bool is_lock = wait->record != NONE;
+    struct kernel_fact *fact = put(reading, event, event->task, is_lock ? LOCK : FUTEX);
+    fact->value = is_lock ? reading->log->mutex_of[wait->record] : wait->object;
+    if (is_lock) fact->by = wait->record;
+}
+
+/* A wait ends at an event. That for a mutex which its thread got ends by the log. */
+static void put_end(struct reading *reading, const struct kernel_event *event,
+                    const struct futex_wait *wait) {
+    bool is_lock = wait->record != NONE;
+    if (is_lock && wait->flags == 0) return;
+    uint32_t task = reading->events.list[wait->begin].task;
+    struct kernel_fact *fact = put(reading, event, task, is_lock ? LOCK_FAILS : FUTEX_ENDS);
+    fact->value = is_lock ? reading->log->mutex_of[wait->record] : wait->object;
+    fact->flags = wait->flags;
+    if (wait->waker != NONE) fact->by = thread_of(reading, wait->waker);
+}
+
 static void put_event(struct reading *reading, uint32_t at) {
     const struct kernel_event *event = &reading->events.list[at];
-    if (reading->ends[at] != NONE) {
-        const struct futex_wait *wait = &reading->waits[reading->ends[at]];
-        struct kernel_fact *fact = put(reading, event, reading->events.list[wait->begin].task,
-                                       FUTEX_ENDS);
-        fact->value = wait->object;
-        fact->flags = wait->flags;
-        if (wait->waker && wait->waker != NONE)
-            fact->by = table_get(&reading->tasks, wait->waker, 0);
-    }
+    if (reading->ends[at] != NONE)
+        put_end(reading, event, &reading->waits[reading->ends[at]]);
     if (event->what == SWITCH) put_switch(reading, event, reading->leaves[at]);
     if (event->what == SETPRIO)
         put(reading, event, event->other, RUNS)->value = event->other_level;
     if (event->what == WOKEN) put(reading, event, event->other, WAKE);
     if (reading->begins[at] != NONE)
-        put(reading, event, event->task, FUTEX)->value =
-            reading->waits[reading->begins[at]].object;
+        put_begin(reading, event, &reading->waits[reading->begins[at]]);
 }
 
 /* Lists what the kernel did. What it did while something was lost isn't certain, and left out. */
@@ -367,6 +415,7 @@ void kernel_read(struct kernel *kernel, struct told *told, const char *path, con
     find_losses(&reading);
     find_intervals(&reading);
     find_threads(&reading);
+    reading.reached = nones(log->thread_count);
     reading.begins = nones(reading.events.count);
     reading.ends = nones(reading.events.count);
     reading.leaves = resized(NULL, reading.events.count);

@@ -6,14 +6,15 @@
 
 enum { MOST_CPUS = 65536 };
 
-enum kernel_what { RUNS, ON, READY, ASLEEP, WAKE, LOST, FUTEX, FUTEX_ENDS };
+enum kernel_what { RUNS, ON, READY, ASLEEP, WAKE, LOST, FUTEX, FUTEX_ENDS, LOCK, LOCK_FAILS };
 
 struct kernel_fact {
     uint64_t time;
     uint64_t count;  /* LOST: events */
     uint32_t thread; /* of the log's threads, to which those of other programs are added */
-    uint32_t value;  /* RUNS: the level; ON: the CPU; FUTEX, FUTEX_ENDS: the object */
-    uint32_t by;     /* FUTEX_ENDS: the thread that woke it, or NONE */
+    uint32_t value;  /* RUNS: the level; ON: the CPU; FUTEX, FUTEX_ENDS: the object; LOCK,
+                      * LOCK_FAILS: the mutex */
+    uint32_t by;     /* FUTEX_ENDS: the thread that woke it, or NONE; LOCK: the call's record */
     uint16_t flags;  /* FUTEX_ENDS: how it ended */
     uint8_t what;
 };

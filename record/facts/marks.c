@@ -8,6 +8,7 @@
 struct behind {
     struct told *told;
     uint32_t *lock;     /* by thread: of a mutex */
+    uint32_t *resumes;  /* by thread: its RESUMES, unless a BLOCKS is before it */
     uint32_t *grant;    /* by mutex: its GRANTED */
     struct table waits; /* by thread and mutex: its WAITS */
     struct table names; /* by thread and mutex: a WAITS whose REQUEST names the thread */
@@ -52,9 +53,13 @@ void mark_order(struct told *told) {
     const struct log *log = told->log;
     struct behind behind = { .told = told,
                              .lock = nones(log->thread_count),
+                             .resumes = nones(log->thread_count),
                              .grant = nones(log->mutex_count) };
     for (uint32_t at = told->fact_count; at-- > 0;) {
-        const struct fact *fact = &told->facts[at];
+        struct fact *fact = &told->facts[at];
+        if (fact->what == BLOCKS) fact->link = behind.resumes[fact->thread];
+        if (fact->what == BLOCKS || fact->what == RESUMES)
+            behind.resumes[fact->thread] = fact->what == RESUMES ? at : NONE;
         if (fact->what > GRANTED) continue;
         if (fact->what == WAITS) mark_wait(&behind, at);
         if (fact->what == RELEASED) mark_release(&behind, at);

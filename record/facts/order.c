@@ -25,9 +25,13 @@ struct order {
     uint32_t *early;           /* by mutex: its RELEASED that is still to come, or NONE */
     uint32_t *awaits;          /* by thread a mutex, or NONE */
     uint32_t *blocked;         /* by thread an object, or NONE */
+    uint32_t *resumes;         /* by thread: the RESUMES that is to come, or NONE */
     uint32_t *releases;        /* by thread: the RELEASED that is still to come, or NONE */
     uint32_t *level;           /* by thread */
     bool *is_own;              /* by thread: it waits for itself */
+    bool *is_kernels;          /* by thread: only the kernel's events show that it waits */
+    uint32_t (*ceilings)[LEVEL_MOST + 1]; /* by thread: how many of each it owns, if it counts */
+    uint32_t *ceiling;                    /* by mutex, or NONE */
     struct table owned_before; /* by thread and mutex */
     uint32_t *declared;        /* the threads, in the order of the log's numbers */
     uint32_t declared_count;
@@ -87,6 +91,54 @@ static void end_line(struct order *order, const struct fact *fact) {
     text_end(order->text);
 }
 
+/* ---- what the kernel runs ---- */
+
+/* Returns what the kernel does with a thread, of which a loss leaves nothing. */
+static struct running *running_of(struct order *order, uint32_t thread) {
+    struct running *running = &order->running[thread];
+    if (running->losses != order->losses) *running = (struct running){ NONE, NONE, order->losses };
+    return running;
+}
+
+static void put_level(struct order *order, uint32_t thread, const char *what, uint32_t level) {
+    begin_line(order, order->now, thread, what, NONE);
+    text_number(order->text, level);
+    text_end(order->text);
+}
+
+/* The kernel runs a thread at a level from now on. That is the own one of a thread which isn't in
+ * the log: nothing else is known of it. */
+static void runs(struct order *order, uint32_t thread, uint32_t level) {
+    bool is_other = thread >= order->kernel->first_other;
+    uint32_t *known = is_other ? &order->level[thread] : &running_of(order, thread)->level;
+    if (*known == level) return;
+    *known = level;
+    put_level(order, thread, is_other ? " priority" : " runs", level);
+}
+
+/* Returns the greatest of a thread's level and the ceilings of what it owns. */
+static uint32_t own_level(const struct order *order, uint32_t thread) {
+    uint32_t level = order->level[thread];
+    for (uint32_t ceiling = LEVEL_MOST; order->ceilings && ceiling > level; ceiling--)
+        if (order->ceilings[thread][ceiling]) return ceiling;
+    return level;
+}
+
+/* The kernel follows where a thread's own level changes, unless the thread has a boost. */
+static void follow(struct order *order, uint32_t thread, uint32_t before) {
+    uint32_t after = own_level(order, thread), level = running_of(order, thread)->level;
+    bool is_boosted = level != before && level >= after;
+    if (after != before && level != NONE && !is_boosted) runs(order, thread, after);
+}
+
+/* A thread owns one mutex more of a ceiling, or one less. */
+static void has_ceiling(struct order *order, uint32_t thread, uint32_t ceiling, int more) {
+    if (!order->ceilings || thread == order->log->thread_count || ceiling == NONE) return;
+    uint32_t before = own_level(order, thread);
+    order->ceilings[thread][ceiling] += (uint32_t)more;
+    follow(order, thread, before);
+}
+
 /* ---- what a thread stops before it does something else ---- */
 
 /* Of a fact or, of what is added, of none. */
@@ -115,6 +167,7 @@ static void lose(struct order *order, uint32_t thread, uint32_t mutex, const str
     if (object != NONE) put_line(order, thread, " blocks", object);
     order->awaits[thread] = awaited;
     order->blocked[thread] = object;
+    has_ceiling(order, thread, order->ceiling[mutex], -1);
 }
 
 /* A release that was told early comes now. */
@@ -140,6 +193,7 @@ static void grant(struct order *order, uint32_t thread, uint32_t mutex, const st
     end_line(order, fact);
     order->owner[mutex] = thread;
     order->awaits[thread] = NONE;
+    has_ceiling(order, thread, order->ceiling[mutex], 1);
     if (order->told->has_missing) *table_at(&order->owned_before, thread, mutex) = 0;
 }
 
@@ -184,6 +238,9 @@ static void mend(struct order *order, const struct fact *wait) {
 static void wait_for(struct order *order, const struct fact *fact) {
     uint32_t thread = fact->thread, mutex = fact->mutex;
     catch_up(order, order->releases[thread]);
+    bool is_told = order->is_kernels[thread] && order->awaits[thread] == mutex;
+    order->is_kernels[thread] = false;
+    if (is_told && !(fact->flags & IS_OWN)) return;
     give_up(order, thread, NULL);
     resume(order, thread);
     if (order->owner[mutex] == NONE && fact->flags & IS_FREE) mend(order, fact);
@@ -221,26 +278,10 @@ static void block(struct order *order, const struct fact *fact) {
     begin_line(order, order->now, fact->thread, " blocks", fact->mutex);
     end_line(order, fact);
     order->blocked[fact->thread] = fact->mutex;
+    order->resumes[fact->thread] = fact->link;
 }
 
 /* ---- what the kernel does ---- */
-
-/* Returns what the kernel does with a thread, of which a loss leaves nothing. */
-static struct running *running_of(struct order *order, uint32_t thread) {
-    struct running *running = &order->running[thread];
-    if (running->losses != order->losses) *running = (struct running){ NONE, NONE, order->losses };
-    return running;
-}
-
-/* The kernel runs a thread at a level from now on. */
-static void runs(struct order *order, uint32_t thread, uint32_t level) {
-    struct running *running = running_of(order, thread);
-    if (running->level == level) return;
-    running->level = level;
-    begin_line(order, order->now, thread, " runs", NONE);
-    text_number(order->text, level);
-    text_end(order->text);
-}
 
 /* A thread is on a CPU, unless it is on one already, or another is on it. */
 static void put_on(struct order *order, uint32_t thread, uint32_t cpu) {
@@ -249,9 +290,7 @@ static void put_on(struct order *order, uint32_t thread, uint32_t cpu) {
     if (running->cpu != NONE || (there != NONE && running_of(order, there)->cpu == cpu)) return;
     order->on[cpu] = thread;
     running->cpu = cpu;
-    begin_line(order, order->now, thread, " on", NONE);
-    text_number(order->text, cpu);
-    text_end(order->text);
+    put_level(order, thread, " on", cpu);
 }
 
 static void put_off(struct order *order, uint32_t thread, const char *what) {
@@ -275,9 +314,9 @@ static void wait_for_futex(struct order *order, uint32_t thread, uint32_t object
     order->blocked[thread] = object;
 }
 
-/* A wait for an object ends. */
+/* A wait for an object ends, by another thread at the place of a record, or NONE. */
 static void unblock(struct order *order, uint32_t thread, uint32_t object, uint32_t by,
-                    uint16_t flags) {
+                    uint16_t flags, uint32_t said) {
     if (order->blocked[thread] != object) return;
     begin_line(order, order->now, thread, " resumes", object);
     if (by != NONE && number_of(order, by)) {
@@ -286,8 +325,33 @@ static void unblock(struct order *order, uint32_t thread, uint32_t object, uint3
     }
     if (flags & IS_TIMED_OUT) text_word(order->text, " timed-out");
     if (flags & HAS_FAILED) text_word(order->text, " failed");
+    if (said != NONE) put_places(order, said);
     text_end(order->text);
     order->blocked[thread] = NONE;
+}
+
+/* A thread sleeps in a call for a mutex. If it waits for an object by the log, as at the end of a
+ * wait at a condition variable, that wait has ended. */
+static void wait_by_kernel(struct order *order, const struct kernel_fact *lock) {
+    uint32_t thread = lock->thread, mutex = lock->value, end = order->resumes[thread];
+    catch_up(order, order->releases[thread]);
+    if (order->awaits[thread] != NONE || order->owner[mutex] == thread) return;
+    const struct fact *resumes = end == NONE ? NULL : &order->told->facts[end];
+    if (resumes)
+        unblock(order, thread, resumes->mutex, resumes->other, resumes->flags, resumes->said);
+    resume(order, thread);
+    begin_line(order, order->now, thread, " waits", mutex);
+    put_places(order, lock->by);
+    text_end(order->text);
+    order->awaits[thread] = mutex;
+    order->is_own[thread] = false;
+    order->is_kernels[thread] = true;
+}
+
+/* Such a call ends without the mutex. */
+static void end_wait_by_kernel(struct order *order, const struct kernel_fact *lock) {
+    bool is_its = order->is_kernels[lock->thread] && order->awaits[lock->thread] == lock->value;
+    if (is_its) give_up(order, lock->thread, NULL);
 }
 
 static void put_kernel_fact(struct order *order, const struct kernel_fact *fact) {
@@ -304,7 +368,11 @@ static void put_kernel_fact(struct order *order, const struct kernel_fact *fact)
         break;
     case LOST: put_loss(order, fact->count); break;
     case FUTEX: wait_for_futex(order, fact->thread, fact->value); break;
-    case FUTEX_ENDS: unblock(order, fact->thread, fact->value, fact->by, fact->flags); break;
+    case FUTEX_ENDS:
+        unblock(order, fact->thread, fact->value, fact->by, fact->flags, NONE);
+        break;
+    case LOCK: wait_by_kernel(order, fact); break;
+    case LOCK_FAILS: end_wait_by_kernel(order, fact); break;
     }
 }
 
@@ -318,21 +386,21 @@ static void put_kernel(struct order *order, uint64_t time) {
 /* ---- more facts ---- */
 
 static void set_level(struct order *order, const struct fact *fact) {
-    uint32_t before = order->level[fact->thread];
-    if (before == fact->other) return;
+    if (order->level[fact->thread] == fact->other) return;
+    uint32_t before = own_level(order, fact->thread);
     order->level[fact->thread] = fact->other;
-    begin_line(order, order->now, fact->thread, " priority", NONE);
-    text_number(order->text, fact->other);
-    text_end(order->text);
-    const struct running *running = running_of(order, fact->thread);
-    bool is_boosted = running->level != before && running->level >= fact->other;
-    if (running->level != NONE && !is_boosted) runs(order, fact->thread, fact->other);
+    put_level(order, fact->thread, " priority", fact->other);
+    follow(order, fact->thread, before);
 }
 
 static void set_ceiling(struct order *order, const struct fact *fact) {
     begin_line(order, order->now, fact->thread, " ceiling", fact->mutex);
     text_number(order->text, fact->other);
     text_end(order->text);
+    uint32_t owner = order->owner[fact->mutex];
+    if (owner != NONE) has_ceiling(order, owner, fact->other, 1);
+    if (owner != NONE) has_ceiling(order, owner, order->ceiling[fact->mutex], -1);
+    order->ceiling[fact->mutex] = fact->other;
 }
 
 static void put_fact(struct order *order, const struct fact *fact) {
@@ -347,7 +415,9 @@ static void put_fact(struct order *order, const struct fact *fact) {
     case PRIORITY: set_level(order, fact); break;
     case CEILING: set_ceiling(order, fact); break;
     case BLOCKS: block(order, fact); break;
-    case RESUMES: unblock(order, fact->thread, fact->mutex, fact->other, fact->flags); break;
+    case RESUMES:
+        unblock(order, fact->thread, fact->mutex, fact->other, fact->flags, fact->said);
+        break;
     }
 }
 
@@ -422,19 +492,24 @@ static void declare_threads(struct order *order) {
     }
 }
 
+/* Returns the first known ceiling of a PROTECT mutex. */
+static uint32_t ceiling_of(const struct mutex *mutex) {
+    uint32_t ceiling = mutex->detail >> 8;
+    return ceiling < LEVEL_MOST ? ceiling : LEVEL_MOST;
+}
+
 static void declare_mutexes(struct order *order) {
     for (uint32_t i = 0; i < order->log->mutex_count; i++) {
         const struct mutex *mutex = &order->log->mutexes[i];
         struct name name = name_of_mutex(order->names, mutex);
         bool is_inherit = (mutex->detail & (DETAIL_INHERIT | DETAIL_PROTECT)) == DETAIL_INHERIT;
-        uint32_t ceiling = mutex->detail >> 8;
         text_begin(order->text);
         text_word(order->text, "mutex");
         text_number(order->text, (uint64_t)i + 1);
         if (is_recursive(mutex)) text_word(order->text, " recursive");
         if (is_protect(mutex)) {
             text_word(order->text, " protect");
-            text_number(order->text, ceiling < LEVEL_MOST ? ceiling : LEVEL_MOST);
+            text_number(order->text, ceiling_of(mutex));
         } else {
             text_word(order->text, is_inherit ? " inherit" : " none");
         }
@@ -499,15 +574,24 @@ static void make(struct order *order) {
     order->early = nones(mutexes);
     order->awaits = nones(threads + 1);
     order->blocked = nones(threads + 1);
+    order->resumes = nones(threads + 1);
     order->releases = nones(threads + 1);
+    order->ceiling = nones(mutexes);
     order->level = nones(threads + 1);
     order->running = resized(NULL, (threads + 1) * sizeof *order->running);
     order->on = nones(order->kernel->is_there ? MOST_CPUS : 0);
     order->is_own = memset(resized(NULL, threads + 1), 0, threads + 1);
+    order->is_kernels = memset(resized(NULL, threads + 1), 0, threads + 1);
     for (uint32_t thread = 0; thread < threads; thread++)
         order->level[thread] = order->log->threads[thread].first_level;
     for (uint32_t thread = 0; thread <= threads; thread++)
         order->running[thread] = (struct running){ NONE, NONE, 0 };
+    for (uint32_t mutex = 0; mutex < mutexes; mutex++) {
+        const struct mutex *its = &order->log->mutexes[mutex];
+        if (is_protect(its)) order->ceiling[mutex] = ceiling_of(its);
+    }
+    size_t bytes = order->kernel->count ? threads * sizeof *order->ceilings : 0;
+    order->ceilings = bytes ? memset(resized(NULL, bytes), 0, bytes) : NULL;
 }
 
 void write_facts(struct told *told, struct kernel *kernel, struct names *names,

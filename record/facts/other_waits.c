@@ -47,15 +47,15 @@ static void give(struct finding *finding, uint32_t at) {
     gifts->last = at;
 }
 
-/* Returns who ended a wait that was given what it waited for, or NONE. */
-static uint32_t giver(struct finding *finding, const struct wait *wait) {
+/* Returns the gift that ended a wait which was given what it waited for, or NONE. */
+static uint32_t gift_of(struct finding *finding, const struct wait *wait) {
     const struct log *log = finding->told->log;
     uint32_t known = *gifts_at(finding, wait->begin);
     if (known == NONE) return NONE;
     uint32_t gift = finding->gifts[known].last;
     if (thread_at(log, gift) == thread_at(log, wait->begin)) gift = finding->gifts[known].before;
     bool is_join = kind_of(record_at(log, wait->begin)) == KIND_THREAD;
-    return gift == NONE || (gift < wait->begin && !is_join) ? NONE : thread_at(log, gift);
+    return gift == NONE || (gift < wait->begin && !is_join) ? NONE : gift;
 }
 
 static void put_mark(struct told *told, uint32_t record, uint32_t wait, bool is_begin) {
@@ -98,8 +98,8 @@ static void end(struct finding *finding, uint32_t at) {
     bool is_given = (record->event == EVENT_WAITED && record->how == 0) ||
                     record->event == EVENT_GRANTED;
     bool is_late = record->event == EVENT_WAITED && record->how == ETIMEDOUT;
-    if (is_given) wait->by = giver(finding, wait);
-    if (is_given && wait->by == NONE && kind == KIND_BARRIER)
+    if (is_given) wait->gift = gift_of(finding, wait);
+    if (is_given && wait->gift == NONE && kind == KIND_BARRIER)
         return; /* it was the last one there */
     wait->flags = is_given ? 0 : is_late ? IS_TIMED_OUT : HAS_FAILED;
     keep(told, number);
@@ -112,7 +112,7 @@ static void begin(struct finding *finding, uint32_t at) {
     *open = NONE;
     if (kind_of(record_at(told->log, at)) == 0) return;
     told->waits = with_room(told->waits, told->wait_count, sizeof *told->waits);
-    told->waits[told->wait_count] = (struct wait){ .begin = at, .by = NONE };
+    told->waits[told->wait_count] = (struct wait){ .begin = at, .gift = NONE };
     *open = told->wait_count++;
 }
 

@@ -257,9 +257,9 @@ static uint32_t tell_waits(struct world *world, uint32_t mark, bool is_begin) {
         const struct wait *wait = &told->waits[next->wait];
         struct fact *fact = put(world, is_begin ? BLOCKS : RESUMES,
                                 thread_at(world->log, wait->begin), wait->object);
-        fact->other = wait->by;
+        fact->other = wait->gift == NONE ? NONE : thread_at(world->log, wait->gift);
         fact->flags = is_begin ? 0 : wait->flags;
-        fact->said = is_begin ? wait->begin : NONE;
+        fact->said = is_begin ? wait->begin : wait->gift;
     }
     return mark;
 }

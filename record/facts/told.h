@@ -21,12 +21,13 @@ enum {
 /* What happened at the time of a record. */
 struct fact {
     uint32_t record;        /* that says it, or behind which it was added */
-    uint32_t said;          /* whose place it has, or NONE */
+    uint32_t said;          /* whose place it has, or NONE; RESUMES: that of who ended it */
     uint32_t thread, mutex; /* of BLOCKS and RESUMES an object */
     uint32_t
         other; /* WAITS: the owner, or NONE; PRIORITY, CEILING: the level; RESUMES: who ended it */
     uint32_t
-        link; /* GRANTED: its thread's record before, or NONE; WAITS that IS_LATE: the grant */
+        link; /* GRANTED: its thread's record before, or NONE; WAITS that IS_LATE: the grant;
+               * BLOCKS: its RESUMES, or NONE */
     uint16_t what, flags;
 };
 
@@ -58,7 +59,8 @@ struct mark {
 
 struct wait {
     uint32_t begin; /* its WAIT or CONDITION */
-    uint32_t object, by;
+    uint32_t object;
+    uint32_t gift;  /* the record that ended it, or NONE */
     uint16_t flags; /* how it ended */
     bool is_kept;
 };
