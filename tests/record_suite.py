@@ -1,71 +1,156 @@
-"""What tests/record does with suite/recordings: logs and kernel's events by hand, and what pim-import says and writes
-of them. suite/recordings/README.md says what the files are. Longer logs are made here."""
+"""What tests/record does with suite/recordings: logs and kernel's events by hand, and what pim-facts writes of them.
+suite/recordings/README.md says what the files are."""
+import importlib
 import pathlib
+import sys
 
 from checks import ROOT, answer, check, difference, files_of
-from record_import import IMPORTER
-from record_logs import change, log_of, read_text, reader
+from record_logs import change, read_text, reader
 
-SUITE = ROOT / "suite/recordings"
-MILLISECOND = 1_000_000
-
-
-class Case:
-    """A recording, the options of its import, and what must come of it, by the ends of the files' names."""
-
-    def __init__(self, name, log=None, kernel=None, options=(), places=None, **wanted):
-        self.name, self.log, self.kernel, self.options, self.wanted = name, log, kernel, options, wanted
-        self.places = None if places is None else places.encode()
-
-    def prepare(self, folder):
-        """Writes the recording into the folder. Returns the arguments of pim-import."""
-        self.path = pathlib.Path(folder, self.name)
-        for end, data in (("", self.log), (".kernel", self.kernel), (".places", self.places)):
-            if data is not None:
-                pathlib.Path(f"{self.path}{end}").write_bytes(data)
-        return [*self.options, str(self.path)]
-
-    def why(self, status, out, err):
-        """Returns what is wrong with what pim-import said and wrote, or None."""
-        if "error" in self.wanted:
-            said = err.replace("pim-import: ", "", 1)
-            for end in ("kernel", "places"):
-                said = said.replace(f"{self.path}.{end}: ", "")
-            written = [end for end in ("pim", "names") if self.lines(end)]
-            return difference((status, out, said, written), (2, "", self.wanted["error"], []))
-        if err or status not in (0, 1):
-            return f"status {status}: {err}"
-        wanted = self.wanted.get("findings", "..").splitlines()
-        return said_otherwise([*out.splitlines(), f"status {status}"], wanted) or self.written_otherwise()
-
-    def lines(self, end):
-        """Returns the lines of a file that was written, without spaces at their ends."""
-        path = pathlib.Path(f"{self.path}.{end}")
-        return [line.rstrip() for line in path.read_text().splitlines()] if path.exists() else []
-
-    def written_otherwise(self):
-        ends = [end for end in self.wanted if end != "findings"]
-        found = (lines_differ(self.lines(end), self.wanted[end].splitlines()) for end in ends)
-        return next(filter(None, found), None)
+SUITE, RECORDED = ROOT / "suite/recordings", ROOT / "record/recorded"
+CONVERTER, PLAIN = ROOT / "record/out/pim-facts", ROOT / "tests/plain_facts"
+VERBS = {True: "waited", False: "waits"}
+# What follows from the recordings of record/recorded, by the records and events that pim-log prints. In kernel_lost_boost
+# the owner's boost to 40 is lost as its base is set to 20; in kernel_relock a thread waits at the end of a condition wait.
+# What the kernel runs a little late is left out.
+CHAIN, LOST_BOOST = "@chain+0x1711 (inherit)", "lost_boost+0x4100@lost_boost+0x122d (inherit)"
+KEPT = {
+    "aborts.log": ["202125 13395 at 0 waits 0 for aborts+0x40c0 (none) of 13386 at 0"],
+    "ceiling.log": ["453075 13330 at 30 waited 20048769 for ceiling+0x4160@ceiling+0x12a1 (protect) of 13329 at 20: lower"],
+    "chain.kernel": ["9935260 18402 at 20 waited 10189907 for 0x564c1773c180 (futex)",
+                     "15104115 18403 at 30 waited 5030801 for 0x564c1773c140 (futex)"],
+    "chain.log": [f"5615753 13320 at 20 waited 10231849 for chain+0x4180{CHAIN} of 13319 at 10: lower",
+                  f"10816104 13321 at 30 waited 5041438 for chain+0x4140{CHAIN} of 13320 at 20: lower"],
+    "condition.log": [],
+    "deadlock.log": ["8756378 13425 at 0 waits 196213111 for deadlock+0x4140@deadlock+0x135e (none) of 13424 at 0",
+                     "8766051 13424 at 0 waits 196203438 for deadlock+0x4100@deadlock+0x135e (none) of 13425 at 0",
+                     "end deadlock of 13424 13425"],
+    "forks.log": [],
+    "inversion.kernel": ["13972990 18379 at 30 waited 40054636 for 0x55ee3a61e140 (futex)"],
+    "inversion_inherit.log": ["2126821 13311 at 30 waited 40046786 for inversion+0x4160@inversion+0x12ed (inherit)"
+                              " of 13310 at 10: lower"],
+    "kernel_chain.log": ["..", f"90491022 933 at 20 waited 100257094 for chain+0x4180{CHAIN} of 930 at 10: lower", "..",
+                         f"140740614 935 at 30 waited 50016008 for chain+0x4140{CHAIN} of 933 at 20: lower", ".."],
+    "kernel_lost_boost.log": ["..", f"20565433 855 at 50 waited 179899161 for {LOST_BOOST} of 854 at 10: lower",
+                              f"40686040 859 at 40 waited 725252566 for {LOST_BOOST} of 854 at 10: lower",
+                              "..", "360682970 855 ran 405215826 at 20 and gets 40"],
+    "kernel_relock.log": ["..", "6196117 30687 at 30 waited 20054985 for relock+0x4180@relock+0x1279 (inherit)"
+                          " of 30688 at 10: lower", ".."],
+    "recursive.log": ["10161977 13342 at 0 waited 100082486 for recursive+0x4100@recursive+0x11c3 (inherit)"
+                      " of 13339 at 0"],
+}
 
 
-def lines_differ(got, wanted):
-    return difference((*got, "no line"), (*wanted, "no line"))
+def plain_reader():
+    """Returns the plain reader of facts as a module. Its modules have names that others have, too."""
+    names = "lines", "world", "rows"
+    own = {name: sys.modules.pop(name) for name in names if name in sys.modules}
+    sys.path.insert(0, str(PLAIN))
+    try:
+        return importlib.import_module("rows")
+    finally:
+        sys.path.remove(str(PLAIN))
+        for name in names:
+            sys.modules.pop(name, None)
+        sys.modules.update(own)
+
+
+ROWS = plain_reader()
+
+
+# ---- what follows from facts
+
+class Findings:
+    """The rows of a text in the words of suite/recordings, with names and places in place of numbers and lines."""
+
+    def __init__(self, facts):
+        self.facts = [line.split() for line in facts.splitlines()]
+        self.named = {(words[0], words[1]): (words[-1], words[-2 if words[0] == "object" or words[-2].isalpha() else -3])
+                      for words in self.facts if words[0] in ("mutex", "object")}
+
+    def name(self, what, number):
+        return "{} ({})".format(*self.named[what, number])
+
+    def places(self, line, word, place):
+        """Returns a word and the places of a line, which has so many words before them."""
+        found = self.facts[int(line) - 1][place:] if line != "0" else []
+        return " ".join(["", word, *found]) if found else ""
+
+    def wait(self, line, until, thread, mutex, begin, lasted, level, _gets, owner, its, taken, inverted, lower, _stalled):
+        kind = ": inverted" if inverted != "0" else ": lower" if lower != "0" else ""
+        owner = f" of {owner} at {its}{self.places(taken, 'from', 4)}" if owner != "0" else ""
+        return (begin, f"{thread} at {level} {VERBS[until != '0']} {lasted} for {self.name('mutex', mutex)}"
+                       f"{self.places(line, 'at', 4)}{owner}{kind}")
+
+    def blocked(self, line, until, thread, thing, begin, lasted, level, ended, by, its):
+        how = ["", f": by {by} at {its}{self.places(until, 'at', 6)}", ": timed out", ": failed"][int(ended)]
+        return (begin, f"{thread} at {level} {VERBS[until != '0']} {lasted} for {self.name('object', thing)}"
+                       f"{self.places(line, 'at', 4)}{how}")
+
+    @staticmethod
+    def ran(_line, _until, thread, begin, lasted, level, gets):
+        return begin, f"{thread} ran {lasted} at {level} and gets {gets}"
+
+    @staticmethod
+    def deadlock(*threads):
+        return "end", f"deadlock of {' '.join(threads)}"
+
+    def meanwhile(self, line, thread, level, time):
+        began = self.facts[int(line) - 1][0]
+        return began, f"{thread} ran {time} at {level} meanwhile"
+
+    def lines(self, rows):
+        """Returns the lines, in the order of the times with which they begin."""
+        told = [(getattr(self, word, None), numbers) for word, *numbers in map(str.split, rows.splitlines())]
+        found = [tell(*numbers) for tell, numbers in told if tell]
+        return [" ".join(line) for line in sorted(found, key=lambda line: (line[0] == "end", line[0].rjust(20), line[1]))]
 
 
 def said_otherwise(got, wanted):
     """Returns where lines differ, or None. A line `..` stands for any lines."""
+    wanted = [line for line in wanted if not line.startswith("#")]
     if ".." not in wanted:
-        return lines_differ(got, wanted)
+        return difference((*got, "no line"), (*wanted, "no line"))
     at = wanted.index("..")
     rest = wanted[at + 1:]
     if got[:at] != wanted[:at]:
-        return lines_differ(got[:at], wanted[:at])
+        return difference((*got[:at], "no line"), (*wanted[:at], "no line"))
     found = not rest or any(said_otherwise(got[begin:], rest) is None for begin in range(at, len(got)))
     return None if found else f"no lines {rest} in {got}"
 
 
 # ---- the files
+
+class Case:
+    """A recording, and what must come of it, by the ends of the files' names."""
+
+    def __init__(self, name, log=None, kernel=None, places=None, **wanted):
+        self.name, self.log, self.kernel, self.wanted = name, log, kernel, wanted
+        self.places = None if places is None else places.encode()
+
+    def play(self, folder):
+        """Returns the status of pim-facts, and both outputs. The path is LOG in what is said."""
+        path = pathlib.Path(folder, self.name)
+        for end, data in (("", self.log), (".kernel", self.kernel), (".places", self.places)):
+            if data is not None:
+                pathlib.Path(f"{path}{end}").write_bytes(data)
+        status, out, err = answer([str(CONVERTER), str(path)])
+        return status, out, err.decode().replace(str(path), "LOG")
+
+    def why(self, folder):
+        """Returns what is wrong with what pim-facts says, or None."""
+        status, out, said = self.play(folder)
+        if "error" in self.wanted:
+            said = said.removeprefix("pim-facts: LOG").removeprefix(".kernel").removeprefix(": ")
+            return difference((status, out, said), (2, b"", self.wanted["error"]))
+        rows, fault, _ = ROWS.answer(out)
+        if status or said or fault:
+            return f"status {status}: {said}{fault}"
+        facts = out.decode()
+        got = {"facts": facts.splitlines(), "rows": Findings(facts).lines(rows)}
+        found = (said_otherwise(got[end], self.wanted[end].splitlines()) for end in self.wanted)
+        return next(filter(None, found), None)
+
 
 def stored():
     """Returns a case for each name in suite/recordings, and for each change of a damaged one."""
@@ -73,12 +158,11 @@ def stored():
     for name in sorted({path.name.split(".")[0] for path in SUITE.glob("*.*")} - {"README"}):
         parts = files_of(SUITE, name)
         log, kernel, changes = (parts.pop(end, None) for end in ("log.txt", "kernel", "changes"))
-        options = parts.pop("options", "").split()
         log, kernel = log and read_text(log), None if kernel is None else kernel.encode()
         if changes:
             cases += [changed(name, number, log, kernel, line) for number, line in enumerate(lines_of(changes))]
         else:
-            cases.append(Case(name, log, kernel, options, **parts))
+            cases.append(Case(name, log, kernel, **parts))
     return cases
 
 
@@ -100,155 +184,6 @@ def changed(name, number, log, kernel, line):
     return Case(f"{name}_{number}", log, kernel, error=f"{why}\n")
 
 
-# ---- longer logs
-
-NONE, INHERIT, PROTECT_40 = 0x04, 0x24, 0x2844
-
-
-def long_log(rows):
-    """Returns the log of rows: thread, event, object, value and detail. Record n is of n milliseconds."""
-    threads = max(row[0] for row in rows)
-    tasks = {thread: 700 + thread for thread in range(1, threads + 1)}
-    times = [MILLISECOND * number for number in range(1, len(rows) + 1)]
-    return log_of([(*row, 0) for row in rows], threads, times, tasks, process=700, began=0)
-
-
-def begun(thread, level, policy=1):
-    return thread, reader.THREAD, 0x10 * thread, 0, policy | level << 8
-
-
-def relay():
-    """300 threads, of which two at a time contend for a mutex of their own."""
-    rows = []
-    for low in range(1, 301, 2):
-        high, mutex = low + 1, 0x5000 + 32 * low
-        rows += [begun(low, 10), begun(high, 20), (low, reader.GRANTED, mutex, 0, INHERIT),
-                 (high, reader.REQUEST, mutex, 700 + low, INHERIT), (low, reader.RELEASE, mutex, 0, INHERIT),
-                 (high, reader.GRANTED, mutex, 2 * MILLISECOND, INHERIT), (high, reader.RELEASE, mutex, 0, INHERIT)]
-    return long_log(rows)
-
-
-class Relay(Case):
-    """Threads whose times don't meet share two numbers, and the mutexes have 150."""
-
-    def written_otherwise(self):
-        declared = [line for line in self.lines("pim") if line.startswith(("task ", "mutex "))]
-        names = [line for line in self.lines("names") if line.startswith(("task ", "mutex "))]
-        got = (len(declared), declared[:3], len(names), names[0], names[-2], len(self.lines("pim")))
-        return difference(got, (152, ["task 1 10", "task 2 20", "mutex 1 inherit"], 450, "task 1 700/701",
-                                "mutex 150 inherit 0x7560 700 0x7560", 1 + 152 + 600))
-
-
-def handed(mutex, high, low, detail):
-    """Rows by which a thread releases a mutex that it has, and which another has awaited, to that one."""
-    return [(high, reader.RELEASE, mutex, 0, detail), (low, reader.GRANTED, mutex, 2 * MILLISECOND, detail),
-            (low, reader.RELEASE, mutex, 0, detail)]
-
-
-def many_mutexes():
-    """200 NONE mutexes, one after the other, and then 57 INHERIT ones at one time. Each is waited for."""
-    rows = [*(begun(thread, 10) for thread in range(1, 58)), begun(58, 20), begun(59, 20)]
-    for place in range(200):
-        mutex, low, high = 0x1000 + 32 * place, 1 + place % 57, 58 + place % 2
-        rows += [(high, reader.GRANTED, mutex, 0, NONE), (low, reader.REQUEST, mutex, 700 + high, NONE)]
-        rows += handed(mutex, high, low, NONE)
-    mutexes = {low: 0x5000 + 32 * low for low in range(1, 58)}
-    rows += [(58, reader.GRANTED, mutex, 0, INHERIT) for mutex in mutexes.values()]
-    rows += [(low, reader.REQUEST, mutex, 758, INHERIT) for low, mutex in mutexes.items()]
-    for low, mutex in mutexes.items():
-        rows += handed(mutex, 58, low, INHERIT)
-    return long_log(rows)
-
-
-class ManyMutexes(Case):
-    """The NONE mutexes share number 1, and the INHERIT ones have 2 to 58."""
-
-    def written_otherwise(self):
-        declared = [line for line in self.lines("pim") if line.startswith("mutex ")]
-        named = [line.split()[:3] for line in self.lines("names") if line.startswith("mutex ")]
-        inherit = [str(number) for number in range(2, 59)]
-        wanted = (["mutex 1 none", *(f"mutex {number} inherit" for number in inherit)],
-                  [["mutex", "1", "none"]] * 200 + [["mutex", number, "inherit"] for number in inherit])
-        return difference((declared, named), wanted)
-
-
-def crowd():
-    """257 threads take part at one time: one has the mutex, and the others wait for it."""
-    rows = [begun(thread, 10) for thread in range(1, 258)] + [(1, reader.GRANTED, 0x500, 0, INHERIT)]
-    return long_log(rows + [(thread, reader.REQUEST, 0x500, 701, INHERIT) for thread in range(2, 258)])
-
-
-def levels(*missing):
-    """Threads of all levels but these: SCHED_OTHER, which is 0, SCHED_FIFO 1 to 99, and SCHED_DEADLINE."""
-    kinds = [(0, 0), *((level, 1) for level in range(1, 100) if level not in missing), (0, 6)]
-    return long_log([begun(thread, *kind) for thread, kind in enumerate(kinds, 1)])
-
-
-OWNERS, EVERYONE, WAITERS = 10, 30, 20
-
-
-def passed_over(visits):
-    """Threads 11 to 30 wait for a mutex, the last of them first, and threads 1 to 10 own it in turn, 1550 times.
-
-    Each time takes 42 steps. Each thread, and the first as often again as is said, has a PROTECT mutex before, which
-    takes two.
-    """
-    def visit(thread):
-        return [(thread, event, 0x400, 0, PROTECT_40) for event in (reader.GRANTED, reader.RELEASE)]
-
-    rows = [row for thread in range(1, EVERYONE + 1) for row in [begun(thread, 0, 0), *visit(thread)]]
-    rows += visits * visit(1) + [(1, reader.GRANTED, 0x500, 0, NONE)]
-    rows += [(EVERYONE - place, reader.REQUEST, 0x500, 701, NONE) for place in range(WAITERS)]
-    for turn in range(1550):
-        owner = turn % OWNERS + 1
-        rows += [(owner, reader.RELEASE, 0x500, 0, NONE), (owner % OWNERS + 1, reader.GRANTED, 0x500, 0, NONE)]
-    return long_log(rows)
-
-
-class Pieces(Case):
-    """The second piece begins with a lock by an owner. After it all others queue in the order of their requests.
-
-    As many of these steps as the case says restore the state.
-    """
-
-    def __init__(self, name, visits, owner, restoring):
-        super().__init__(name, passed_over(visits))
-        self.begin = [f"{owner} lock 2 = granted"] + [f"{EVERYONE - place} lock 2 = queued" for place in range(WAITERS)]
-        self.restoring = restoring
-
-    def written_otherwise(self):
-        steps = [line for line in self.lines("2.pim") if line[0].isdigit()]
-        pieces = [line for line in self.lines("names") if line.startswith("piece ")]
-        why = difference((pieces, self.lines("3.pim")), (["piece 1 0", f"piece 2 {self.restoring}"], []))
-        return why or lines_differ(steps[:1 + WAITERS], self.begin)
-
-
-CROWDED = "more than 256 threads contend at one time, or the mutexes need more than 256 numbers\n"
-SHARED = "trace: 300 threads and 150 mutexes of 750 records make 600 steps of 1.050 s; " \
-         "priorities as they are, SCHED_OTHER at 1"
-MANY = "trace: 59 threads and 257 mutexes of 1285 records make 1028 steps of 1.344 s; " \
-       "priorities as they are, SCHED_OTHER at 1"
-RANKS = "trace: 0 threads and 0 mutexes of 0 records make 0 steps of 99.000 ms; priorities are ranks"
-
-
-def made():
-    """Returns the cases of longer logs.
-
-    Of the pieces, 81 steps are made before the first release. So the first piece has 64,530 behind release 1535, by
-    thread 5, and no room for the grant: all wait outside of the queue then, and nothing restores it. With four steps
-    more it has 64,513 before that release, and no room for it.
-    """
-    return [
-        Relay("threads_share_numbers", relay(), findings=f"..\n{SHARED}\nstatus 0\n"),
-        ManyMutexes("mutexes_share_numbers", many_mutexes(), findings=f"..\n{MANY}\nstatus 0\n"),
-        Case("more_threads_at_one_time_than_numbers", crowd(), error=CROWDED),
-        Case("as_many_levels_as_priorities", levels(30, 60), findings=f"..\n{RANKS}\nstatus 0\n"),
-        Case("more_levels_than_priorities", levels(30), error="threads and ceilings have more than 99 priorities\n"),
-        Pieces("waiters_outside_keep_their_order_in_the_next_piece", 0, 6, 0),
-        Pieces("waiters_in_a_queue_keep_their_order_in_the_next_piece", 2, 5, 1 + WAITERS),
-    ]
-
-
 NOT_A_LOG = "it isn't a log of pim-record, or only the beginning of one\n"
 CUT_SHORT = "the file ends before its last chunk does\n"
 
@@ -263,8 +198,18 @@ def prefixes():
     return cases
 
 
+def kept():
+    """Returns a case for each recording that is kept, with what follows from it, if that is known."""
+    cases = []
+    for path in sorted(path for path in RECORDED.iterdir() if not path.name.endswith(".log.kernel")):
+        log = path.read_bytes() if path.suffix == ".log" else None
+        kernel = path if log is None else pathlib.Path(f"{path}.kernel")
+        wanted = {"rows": "\n".join(KEPT[path.name])} if path.name in KEPT else {}
+        cases.append(Case(path.name, log, kernel.read_bytes() if kernel.exists() else None, **wanted))
+    return cases
+
+
 def suite(folder):
-    """Plays each case with the program that is built."""
-    for case in [*stored(), *made(), *prefixes()]:
-        status, out, err = answer([str(IMPORTER), *case.prepare(folder)])
-        check(f"the recording {case.name}", case.why(status, out.decode(), err.decode()))
+    """Plays each case with the pim-facts that is built."""
+    for case in [*stored(), *prefixes(), *kept()]:
+        check(f"the recording {case.name}", case.why(folder))

@@ -1,12 +1,10 @@
 """What tests/record does with pim-facts: it writes of logs by hand what is written here, and of recordings, of random
 logs and of random kernel's events what plain_facts_of_log.py writes. Each text is one that the plain reader of facts
 finds valid. Damaged logs are refused, and clang's fuzzer finds no fault, where it is installed."""
-import importlib
 import pathlib
 import re
 import shutil
 import subprocess
-import sys
 
 import plain_facts_of_log
 import record_futex_waits
@@ -15,13 +13,12 @@ import record_suite
 from checks import ROOT, SECONDS, check, difference, skip
 from random_log import RandomLog
 from random_program import FIRST_TASK
-from record_logs import read_text, reader
+from record_logs import read_text
+from record_suite import CONVERTER, ROWS
 
-CONVERTER, PLAIN = ROOT / "record/out/pim-facts", ROOT / "tests/plain_facts"
 LOGS, TEXTS, FIRST_SEED, FUZZED = 250, 15, 1, 3000
 MOST_LINES = 250  # of the kernel's events
 KERNEL_HEAD = "pim-kernel 2\nkernel 6.18.44 x86_64\nclock mono\nprocess 701\nbegan 0\ncpus 2\n"
-OTHER_REASONS = ("it contradicts the records before it", "it names no place of the log", "its head isn't whole")
 
 # A log, what is written of it behind the threads and the mutexes, without `end`, and the kernel's events, if there are.
 BY_HAND = {
@@ -192,27 +189,11 @@ BY_HAND = {
 }
 
 
-def plain_reader():
-    """Returns the plain reader of facts as a module, or None. Its modules have names that others have, too."""
-    names = "reading", "world", "rows"
-    own = {name: sys.modules.pop(name) for name in names if name in sys.modules}
-    sys.path.insert(0, str(PLAIN))
-    try:
-        return importlib.import_module("rows")
-    except ModuleNotFoundError:
-        return None
-    finally:
-        sys.path.remove(str(PLAIN))
-        for name in names:
-            sys.modules.pop(name, None)
-        sys.modules.update(own)
-
-
 class Converter:
     """Runs pim-facts on recordings in a folder, and compares what it writes."""
 
     def __init__(self, folder):
-        self.path, self.rows, self.words = pathlib.Path(folder, "facts"), plain_reader(), set()
+        self.path, self.words = pathlib.Path(folder, "facts"), set()
 
     def run(self, log=None, places=None, kernel=None):
         """Returns status, text and what is said of a recording, without its path."""
@@ -232,10 +213,7 @@ class Converter:
         got = difference((status, said, *out.decode().splitlines()), (0, "", *wanted.splitlines()))
         words = {word for line in wanted.splitlines() for word in line.split()[:6]}
         self.words |= {word for word in words if word.isalpha() or "-" in word}
-        return got or self.fault(out)
-
-    def fault(self, text):
-        return self.rows and (self.rows.answer(text)[1].strip() or None)
+        return got or ROWS.answer(out)[1].strip() or None
 
 
 def by_hand(converter):
@@ -253,21 +231,10 @@ def by_hand(converter):
 
 
 def recordings(converter):
-    """Recordings that are kept, and those by hand, of which some are refused."""
-    for path in sorted((ROOT / "record/recorded").glob("*.log")):
-        kernel = pathlib.Path(f"{path}.kernel")
-        why = converter.why(path.read_bytes(), None, kernel.read_bytes() if kernel.exists() else None)
-        check(f"the facts of {path.name}", why)
-    for case in record_suite.stored():
-        log = case.log and bytes(case.log)
-        error = case.wanted.get("error", OTHER_REASONS[0])
-        if any(reason in error for reason in OTHER_REASONS):
-            why = None if "head" in error else converter.why(log, case.places, case.kernel)
-            check(f"the facts of {case.name}", why)
-            continue
-        status, out, said = converter.run(log, case.places, case.kernel)
-        said = said.removeprefix("pim-facts: LOG").removeprefix(".kernel").removeprefix(": ")
-        check(f"pim-facts refuses {case.name}", difference((status, out, said), (2, b"", error)))
+    """Recordings that are kept, and those by hand that aren't refused."""
+    for case in [*record_suite.kept(), *record_suite.stored()]:
+        if "error" not in case.wanted:
+            check(f"the facts of {case.name}", converter.why(case.log and bytes(case.log), case.places, case.kernel))
 
 
 def random_logs(converter):
@@ -376,5 +343,3 @@ def to_facts(folder):
     command(converter)
     generated(converter)
     fuzz()
-    if converter.rows is None:
-        skip("each text is valid", f"there is no {PLAIN.name}")
