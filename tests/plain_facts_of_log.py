@@ -522,7 +522,10 @@ class Writer:
 
     def kernel_fact(self, fact, thread):
         if fact.what == plain_kernel.RUNS:
-            self.runs_at(thread, fact.value)
+            first = next((one.time for one in self.log.records if one.chunk.thread == thread), 0)
+            awaited = self.awaits.get(thread, (None,))[0]
+            if fact.time >= first and self.ceiling.get(awaited) != fact.value:
+                self.runs_at(thread, fact.value)
         elif fact.what == plain_kernel.ON:
             if thread not in self.on and fact.value not in self.on.values():
                 self.on[thread] = fact.value

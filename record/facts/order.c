@@ -283,6 +283,15 @@ static void block(struct order *order, const struct fact *fact) {
 
 /* ---- what the kernel does ---- */
 
+/* The kernel shows at which level it runs a thread. That of a thread that is being created is its
+ * creator's. The C library raises a thread to a ceiling before it waits for the mutex. */
+static void show_level(struct order *order, const struct kernel_fact *fact) {
+    uint32_t first = order->log->threads[fact->thread].first, awaited = order->awaits[fact->thread];
+    bool is_new = first != NONE && fact->time < record_at(order->log, first)->time;
+    bool is_raised = awaited != NONE && order->ceiling[awaited] == fact->value;
+    if (!is_new && !is_raised) runs(order, fact->thread, fact->value);
+}
+
 /* A thread is on a CPU, unless it is on one already, or another is on it. */
 static void put_on(struct order *order, uint32_t thread, uint32_t cpu) {
     struct running *running = running_of(order, thread);
@@ -358,7 +367,7 @@ static void put_kernel_fact(struct order *order, const struct kernel_fact *fact)
     order->now = since_begin(order->log, fact->time);
     if (fact->what != LOST && number_of(order, fact->thread) == 0) return;
     switch (fact->what) {
-    case RUNS: runs(order, fact->thread, fact->value); break;
+    case RUNS: show_level(order, fact); break;
     case ON: put_on(order, fact->thread, fact->value); break;
     case READY: put_off(order, fact->thread, " off ready"); break;
     case ASLEEP: put_off(order, fact->thread, " off asleep"); break;
