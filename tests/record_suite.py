@@ -10,6 +10,7 @@ from record_logs import change, read_text, reader
 SUITE, RECORDED = ROOT / "suite/recordings", ROOT / "record/recorded"
 CONVERTER, PLAIN = ROOT / "record/out/pim-facts", ROOT / "tests/plain_facts"
 VERBS = {True: "waited", False: "waits"}
+KERNEL_HEAD = "pim-kernel 2\nkernel 6.18.44 x86_64\nclock mono\nprocess 700\nbegan 0\ncpus 2\n"
 # What follows from the recordings of record/recorded, by the records and events that pim-log prints. In kernel_lost_boost
 # the owner's boost to 40 is lost as its base is set to 20; in kernel_relock a thread waits at the end of a condition wait.
 # What the kernel runs a little late is left out.
@@ -158,12 +159,17 @@ def stored():
     for name in sorted({path.name.split(".")[0] for path in SUITE.glob("*.*")} - {"README"}):
         parts = files_of(SUITE, name)
         log, kernel, changes = (parts.pop(end, None) for end in ("log.txt", "kernel", "changes"))
-        log, kernel = log and read_text(log), None if kernel is None else kernel.encode()
+        log, kernel = log and read_text(log), kernel if kernel is None else with_head(kernel)
         if changes:
             cases += [changed(name, number, log, kernel, line) for number, line in enumerate(lines_of(changes))]
         else:
             cases.append(Case(name, log, kernel, **parts))
     return cases
+
+
+def with_head(events):
+    """Returns the kernel's events of a text, which may lack the head."""
+    return (KERNEL_HEAD * events[:1].isdigit() + events).encode()
 
 
 def lines_of(changes):

@@ -14,11 +14,11 @@ from checks import ROOT, SECONDS, check, difference, skip
 from random_log import RandomLog
 from random_program import FIRST_TASK
 from record_logs import read_text
-from record_suite import CONVERTER, ROWS
+from record_suite import CONVERTER, KERNEL_HEAD, ROWS
 
 LOGS, TEXTS, FIRST_SEED, FUZZED = 250, 15, 1, 3000
 MOST_LINES = 250  # of the kernel's events
-KERNEL_HEAD = "pim-kernel 2\nkernel 6.18.44 x86_64\nclock mono\nprocess 701\nbegan 0\ncpus 2\n"
+MUTEXES, BEGAN, LONGER = ("0x5000", "0x5040"), 1000, 40
 
 # A log, what is written of it behind the threads and the mutexes, without `end`, and the kernel's events, if there are.
 BY_HAND = {
@@ -249,10 +249,15 @@ def random_logs(converter):
 
 
 def kernel_of(seed):
-    """Returns random events of the kernel, of which some tasks are those of the random logs."""
+    """Returns random events of the kernel, of which some tasks and mutexes are those of the random logs. They take as
+    long as such a log."""
     task = lambda word: str(int(word[0]) - record_futex_waits.TASKS[0] + FIRST_TASK)
+    later = lambda word: word[1] + str(BEGAN + LONGER * (int(word[2]) - BEGAN))
     text = re.sub(r"(?<![-\w])1[1-4]\b", task, record_futex_waits.random_text(seed))
-    return "".join(text.splitlines(keepends=True)[:MOST_LINES]).encode()
+    for address, mutex in zip(record_futex_waits.ADDRESSES, MUTEXES):
+        text = text.replace(address, mutex)
+    head, lines = text.splitlines(keepends=True)[:6], text.splitlines(keepends=True)[6:MOST_LINES]
+    return "".join([*head, *(re.sub(r"(^|^end | lost \d+ )(\d+)", later, line) for line in lines)]).encode()
 
 
 def random_events(converter):
