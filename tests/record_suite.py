@@ -11,13 +11,14 @@ SUITE, RECORDED = ROOT / "suite/recordings", ROOT / "record/recorded"
 CONVERTER, PLAIN = ROOT / "record/out/pim-facts", ROOT / "tests/plain_facts"
 VERBS = {True: "waited", False: "waits"}
 KERNEL_HEAD = "pim-kernel 2\nkernel 6.18.44 x86_64\nclock mono\nprocess 700\nbegan 0\ncpus 2\n"
-# What follows from the recordings of record/recorded, by the records and events that pim-log prints. In kernel_lost_boost
-# the owner's boost to 40 is lost as its base is set to 20; in kernel_relock a thread waits at the end of a condition wait.
-# What the kernel runs a little late is left out.
+# What follows from the recordings of record/recorded, by the records and events that pim-log prints. In
+# kernel_lost_boost the owner's boost to 40 is lost as its base is set to 20. In kernel_relock a thread waits at the end
+# of a condition wait. Rows `ran` of a boost that comes or goes a little late are left out.
 CHAIN, LOST_BOOST = "@chain+0x1711 (inherit)", "lost_boost+0x4100@lost_boost+0x122d (inherit)"
 KEPT = {
     "aborts.log": ["202125 13395 at 0 waits 0 for aborts+0x40c0 (none) of 13386 at 0"],
-    "ceiling.log": ["453075 13330 at 30 waited 20048769 for ceiling+0x4160@ceiling+0x12a1 (protect) of 13329 at 20: lower"],
+    "ceiling.log": ["453075 13330 at 30 waited 20048769 for ceiling+0x4160@ceiling+0x12a1 (protect)"
+                    " of 13329 at 20: lower"],
     "chain.kernel": ["9935260 18402 at 20 waited 10189907 for 0x564c1773c180 (futex)",
                      "15104115 18403 at 30 waited 5030801 for 0x564c1773c140 (futex)"],
     "chain.log": [f"5615753 13320 at 20 waited 10231849 for chain+0x4180{CHAIN} of 13319 at 10: lower",
@@ -66,26 +67,23 @@ class Findings:
 
     def __init__(self, facts):
         self.facts = [line.split() for line in facts.splitlines()]
-        self.named = {(words[0], words[1]): (words[-1], words[-2 if words[0] == "object" or words[-2].isalpha() else -3])
+        self.named = {(words[0], words[1]): f"{words[-1]} ({words[-2] if words[-2].isalpha() else words[-3]})"
                       for words in self.facts if words[0] in ("mutex", "object")}
-
-    def name(self, what, number):
-        return "{} ({})".format(*self.named[what, number])
 
     def places(self, line, word, place):
         """Returns a word and the places of a line, which has so many words before them."""
         found = self.facts[int(line) - 1][place:] if line != "0" else []
         return " ".join(["", word, *found]) if found else ""
 
-    def wait(self, line, until, thread, mutex, begin, lasted, level, _gets, owner, its, taken, inverted, lower, _stalled):
+    def wait(self, line, until, thread, mutex, begin, lasted, level, _gets, owner, its, taken, inverted, lower, _):
         kind = ": inverted" if inverted != "0" else ": lower" if lower != "0" else ""
         owner = f" of {owner} at {its}{self.places(taken, 'from', 4)}" if owner != "0" else ""
-        return (begin, f"{thread} at {level} {VERBS[until != '0']} {lasted} for {self.name('mutex', mutex)}"
+        return (begin, f"{thread} at {level} {VERBS[until != '0']} {lasted} for {self.named['mutex', mutex]}"
                        f"{self.places(line, 'at', 4)}{owner}{kind}")
 
     def blocked(self, line, until, thread, thing, begin, lasted, level, ended, by, its):
         how = ["", f": by {by} at {its}{self.places(until, 'at', 6)}", ": timed out", ": failed"][int(ended)]
-        return (begin, f"{thread} at {level} {VERBS[until != '0']} {lasted} for {self.name('object', thing)}"
+        return (begin, f"{thread} at {level} {VERBS[until != '0']} {lasted} for {self.named['object', thing]}"
                        f"{self.places(line, 'at', 4)}{how}")
 
     @staticmethod
@@ -104,7 +102,8 @@ class Findings:
         """Returns the lines, in the order of the times with which they begin."""
         told = [(getattr(self, word, None), numbers) for word, *numbers in map(str.split, rows.splitlines())]
         found = [tell(*numbers) for tell, numbers in told if tell]
-        return [" ".join(line) for line in sorted(found, key=lambda line: (line[0] == "end", line[0].rjust(20), line[1]))]
+        order = lambda line: (line[0] == "end", line[0].rjust(20), line[1])
+        return [" ".join(line) for line in sorted(found, key=order)]
 
 
 def said_otherwise(got, wanted):
