@@ -178,6 +178,35 @@ BY_HAND = {
         350 0 702 wake 701
         360 0 701 return 0
         """),
+    "a wait at a condition variable whose relock fails": ("""
+        @1 1 THREAD 0x10 fifo 10
+        @2 2 THREAD 0x20 fifo 80
+        @10 2 GRANTED 0x500 none
+        @20 2 CONDITION 0x700
+        @20 2 RELEASE 0x500 none condition
+        @30 1 GIVE 0x700 condition
+        @40 2 FAILED 0x500 error 110
+        """, "10 702 granted 1, 20 702 released 1, 20 702 blocks 1, 40 702 resumes 1 failed"),
+    "an owner doesn't wait for its mutex, whatever the kernel's events say": ("""
+        @1 1 THREAD 0x10 fifo 10
+        @10 1 GRANTED 0x500 inherit recursive
+        @400 1 RELEASE 0x500 inherit recursive
+        """, "10 701 granted 1, 110 701 runs 10, 110 701 off asleep, 400 701 released 1", """
+        100 0 701 lock 0x500 private
+        110 0 701 switch 89 S 0 120
+        200 0 701 return 0
+        """),
+    "a wait of the log ends by the log": ("""
+        @1 1 THREAD 0x10 fifo 10
+        @2 2 THREAD 0x20 fifo 80
+        @10 1 GRANTED 0x500 inherit
+        @100 2 REQUEST 0x500 inherit owner 701 timedlock
+        @310 2 FAILED 0x500 took 210 error 110
+        """, "10 701 granted 1, 100 702 waits 1, 120 702 runs 80, 120 702 off asleep, 310 702 gave-up 1", """
+        110 0 702 lock 0x500 private
+        120 0 702 switch 19 S 0 120
+        300 0 702 return -110
+        """),
     "waits that time out, fail, and last": ("""
         @1 1 THREAD 0x10 fifo 10
         @10 1 WAIT 0x700 semaphore
