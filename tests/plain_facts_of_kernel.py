@@ -57,6 +57,7 @@ class Kernel:
         assert whole.faults in ([], ["the end is missing: the recorder was killed, or goes on"]), whole.faults
         self.events = [event for event in whole.events if event.what != "name"]
         times = [event.time for event in whole.events]
+        self.is_whole = whole.end is not None
         self.ended = max([whole.head.began, *times, *([whole.end[0]] if whole.end else [])])
         self.names = {event.values[0]: event.values[1] for event in whole.events if event.what == "name"}
         self.losses = sorted((event.values[1], event.time, event.values[0]) for event in whole.lost())

@@ -319,6 +319,8 @@ class Writer:
             if count:
                 said = {"dropped": "was" if count == 1 else "were", "unplaced": "place" if count == 1 else "places"}
                 self.lines.append(f"unseen {count} {what}{'s' if count > 1 else ''} {why.format(said.get(field))}")
+        if self.kernel and not self.kernel.is_whole:
+            self.lines.append("unseen the rest of the kernel's events, which aren't whole")
 
     # ---- what comes behind
 

@@ -248,7 +248,7 @@ class Converter:
 def by_hand(converter):
     for name, (log, wanted, *events) in BY_HAND.items():
         lines = [line.strip() for line in events[0].strip().splitlines()] if events else []
-        kernel = (KERNEL_HEAD + "".join(f"{line}\n" for line in lines)).encode() if lines else None
+        kernel = (KERNEL_HEAD + "\n".join([*lines, "end 500 0 0\n"])).encode() if lines else None
         wanted = [line.strip() for line in wanted.split(",")]
         data = bytes(read_text(log))
         status, out, said = converter.run(data, None, kernel)

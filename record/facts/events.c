@@ -229,4 +229,5 @@ void events_read(struct events *events, const char *path, const char *bytes, siz
         if (count + 1 == HEAD_LINES) events->ended = events->began;
     }
     if (count < HEAD_LINES) refuse(path, "its head isn't whole");
+    events->is_whole = has_ended;
 }

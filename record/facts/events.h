@@ -22,6 +22,7 @@ struct events {
     struct kernel_event *list;
     uint32_t count;
     uint64_t began, ended;
+    bool is_whole; /* the last line says that they end */
 };
 
 void events_read(struct events *events, const char *path, const char *bytes, size_t length);

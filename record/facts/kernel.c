@@ -409,6 +409,7 @@ void kernel_read(struct kernel *kernel, struct told *told, const char *path, con
     struct reading reading = { .kernel = kernel, .told = told, .log = told->log };
     events_read(&reading.events, path, bytes, length);
     kernel->is_there = true;
+    kernel->is_whole = reading.events.is_whole;
     struct log *log = told->log;
     if (log->chunks == 0 && log->length == 0)
         log->header.began_monotonic = log->ended = reading.events.began;

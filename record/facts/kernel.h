@@ -23,7 +23,7 @@ struct kernel {
     struct kernel_fact *facts;
     uint32_t count, next;
     uint32_t first_other; /* the threads from this one on aren't in the log */
-    bool is_there;
+    bool is_there, is_whole;
 };
 
 /* Reads the kernel's events, and adds the threads that only they show to the log, and the futexes

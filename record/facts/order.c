@@ -573,6 +573,10 @@ static void declare_unseen(struct order *order) {
                " early records that were dropped for later ones");
     put_unseen(order, header->unplaced, " record for whose place the log had no room",
                " records for whose places the log had no room");
+    if (!order->kernel->is_there || order->kernel->is_whole) return;
+    text_begin(order->text);
+    text_word(order->text, "unseen the rest of the kernel's events, which aren't whole");
+    text_end(order->text);
 }
 
 /* ---- all of it ---- */
