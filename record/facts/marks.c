@@ -8,7 +8,7 @@
 struct behind {
     struct told *told;
     uint32_t *lock;     /* by thread: of a mutex */
-    uint32_t *resumes;  /* by thread: its RESUMES, unless a BLOCKS is before it */
+    uint32_t *resumes;  /* by thread: its RESUMES */
     uint32_t *grant;    /* by mutex: its GRANTED */
     struct table waits; /* by thread and mutex: its WAITS */
     struct table names; /* by thread and mutex: a WAITS whose REQUEST names the thread */
@@ -58,8 +58,7 @@ void mark_order(struct told *told) {
     for (uint32_t at = told->fact_count; at-- > 0;) {
         struct fact *fact = &told->facts[at];
         if (fact->what == BLOCKS) fact->link = behind.resumes[fact->thread];
-        if (fact->what == BLOCKS || fact->what == RESUMES)
-            behind.resumes[fact->thread] = fact->what == RESUMES ? at : NONE;
+        if (fact->what == RESUMES) behind.resumes[fact->thread] = at;
         if (fact->what > GRANTED) continue;
         if (fact->what == WAITS) mark_wait(&behind, at);
         if (fact->what == RELEASED) mark_release(&behind, at);
