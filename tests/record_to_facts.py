@@ -207,6 +207,27 @@ BY_HAND = {
         120 0 702 switch 19 S 0 120
         300 0 702 return -110
         """),
+    "a wait for an object ends as its thread sleeps in a lock": ("""
+        @1 1 THREAD 0x10 fifo 10
+        @2 2 THREAD 0x20 fifo 80
+        @10 1 GRANTED 0x500 inherit
+        @20 2 WAIT 0x700 semaphore
+        @290 1 RELEASE 0x500 inherit
+        @300 2 GRANTED 0x500 inherit took 1
+        """, "10 701 granted 1, 20 702 blocks 1, 110 702 runs 80, 110 702 off asleep, 110 702 resumes 1, "
+             "110 702 waits 1, 290 701 released 1, 300 702 granted 1", """
+        100 0 702 lock 0x500 private
+        110 0 702 switch 19 S 0 120
+        295 0 702 return 0
+        """),
+    "a call whose return is missing ends with the next call": ("""
+        @1 1 THREAD 0x10 fifo 10
+        @400 1 EXIT
+        """, "100 701 blocks 1, 110 701 runs 10, 110 701 off asleep, 300 701 resumes 1", """
+        100 0 701 wait 0x900 private
+        110 0 701 switch 89 S 0 120
+        300 0 701 unlock 0x500 private
+        """),
     "waits that time out, fail, and last": ("""
         @1 1 THREAD 0x10 fifo 10
         @10 1 WAIT 0x700 semaphore
