@@ -6,7 +6,7 @@ from bounds import Bounds
 from finding import BAD, KINDS, LOOK
 from mutex_waits import MutexWaits
 from other_findings import OtherFindings
-from words import count, duration, listed, moment
+from words import count, duration, moment
 
 
 class Findings:
@@ -60,8 +60,7 @@ class Findings:
 
     def unseen(self):
         """Returns what this report can't say, in sentences."""
-        said = [f"What happens at {listed(words, 16)}: the recorder can't see it."
-                for words in self.facts.unseen]
+        said = [f"The recorder couldn't see: {' '.join(words)}." for words in self.facts.unseen]
         if self.facts.lost:
             lost, first = sum(one.count for one in self.facts.lost), self.facts.lost[0]
             said.append(f"{count(lost, 'event')} {'was' if lost == 1 else 'were'} lost, from"

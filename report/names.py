@@ -77,7 +77,9 @@ class Names:
     def object(self, number):
         one = self.facts.objects[number]
         if one.kind == "thread":
-            return "the end of a thread" if one.name == "-" else f"the end of {one.name}"
+            # A recorder that doesn't know which thread it is gives its address.
+            is_known = one.name != "-" and not one.name.startswith("0x")
+            return f"the end of {one.name}" if is_known else "the end of a thread"
         kind = KINDS.get(one.kind, one.kind)
         return f"{kind} {one.name if one.name != '-' else number}"
 
