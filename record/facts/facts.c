@@ -5,11 +5,13 @@
 #include <errno.h>
 #include <fcntl.h>
 #include <getopt.h>
+#include <linux/magic.h>
 #include <stdio.h>
 #include <stdlib.h>
 #include <string.h>
 #include <sys/mman.h>
 #include <sys/stat.h>
+#include <sys/vfs.h>
 #include <unistd.h>
 
 static const char help[] =
@@ -30,6 +32,22 @@ static const char help[] =
     "Status: 0; 2 if LOG can't be read, isn't a log or is damaged, or the text can't be written.\n"
     "Then a line on standard error says why. Nothing is written of a log that is refused.\n";
 
+static const char *copied(const char *path, int file, size_t length) {
+    char *bytes = resized(NULL, length);
+    for (size_t at = 0; at < length;) {
+        ssize_t count = pread(file, bytes + at, length - at, (off_t)at);
+        if (count <= 0) refuse(path, "%s", count < 0 ? strerror(errno) : "it was cut meanwhile");
+        at += (size_t)count;
+    }
+    return bytes;
+}
+
+/* Returns whether a file is in memory. If that is full, a hole of it can be read, and not mapped. */
+static bool is_in_memory(int file) {
+    struct statfs system;
+    return fstatfs(file, &system) == 0 && system.f_type == TMPFS_MAGIC;
+}
+
 /* Maps a file, which may be missing: then this returns NULL. */
 static const char *mapped(const char *path, bool may_lack, size_t *length) {
     struct stat status;
@@ -39,6 +57,7 @@ static const char *mapped(const char *path, bool may_lack, size_t *length) {
     if (file < 0 || fstat(file, &status) != 0) refuse(path, "%s", strerror(errno));
     if (!S_ISREG(status.st_mode)) refuse(path, "it isn't a file");
     *length = (size_t)status.st_size;
+    if (*length && is_in_memory(file)) return copied(path, file, *length);
     void *bytes = *length ? mmap(NULL, *length, PROT_READ, MAP_PRIVATE, file, 0) : (void *)"";
     if (bytes == MAP_FAILED) refuse(path, "%s", strerror(errno));
     close(file);
