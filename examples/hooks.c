@@ -1,6 +1,6 @@
-/* The trace hooks of a made-up RTOS: they print facts as text, which pim-import --facts reads.
- * docs/IMPORT-FACTS.md says what the lines are. The RTOS calls each hook with the scheduler locked, and
- * tells threads and mutexes by their numbers from 1 on. */
+/* The trace hooks of a made-up RTOS: they print facts as text, of which pim-report --facts says who
+ * was held up. docs/FACTS.md says what the lines are. The RTOS calls each hook with the scheduler
+ * locked, and numbers threads and mutexes from 1 on. */
 #include <stdio.h>
 
 typedef unsigned long long Nanoseconds;
@@ -16,6 +16,7 @@ static void trace_block(Thread t, Mutex m) { printf("%llu %u waits %u\n", now, t
 static void trace_timeout(Thread t, Mutex m) { printf("%llu %u gave-up %u\n", now, t, m); }
 static void trace_unlock(Thread t, Mutex m) { printf("%llu %u released %u\n", now, t, m); }
 static void trace_priority(Thread t, Level l) { printf("%llu %u priority %u\n", now, t, l); }
+static void trace_end(void) { printf("%llu end\n", now); }
 
 /* What the RTOS does as it runs three threads: log holds the map for 4 ms, plan waits for it, and
  * spare gives up after 1 ms. */
@@ -33,5 +34,6 @@ int main(void)
     now = 4000500, trace_unlock(1, 1), trace_lock(2, 1);
     now = 4100500, trace_priority(1, 5);
     now = 5000500, trace_unlock(2, 1);
+    trace_end();
     return 0;
 }

@@ -3,10 +3,11 @@
  * the program ends. PIM_RECORD is the log's file, of PIM_RECORD_BYTES, or of the last records of
  * PIM_RECORD_LAST bytes, with snapshots by PIM_RECORD_TRIGGER nanoseconds; with
  * PIM_RECORD_CONTENDED only of what is waited for, and with PIM_RECORD_STACKS with the stacks of
- * requests. PIM_RECORD_READER, the path of pim-log, names the places at the end. With PIM_KERNEL,
- * the name of a file, it records the kernel's events there: without the library where the program
- * can't have it, or where PIM_RECORD names no log. The library finds the name of the collector's
- * socket in PIM_RECORD.
+ * requests. PIM_RECORD_READER, the path of pim-log, names the places at the end. PIM_RECORD_SHOW,
+ * the path of record/show, then says who was held up, with the arguments PIM_RECORD_HOW and
+ * PIM_RECORD_NAME. With PIM_KERNEL, the name of a file, it records the kernel's events there:
+ * without the library where the program can't have it, or where PIM_RECORD names no log. The
+ * library finds the name of the collector's socket in PIM_RECORD.
  *
  * pim-launch --pid PROCESS [NANOSECONDS]: records there the kernel's events of a program that runs
  * already, for so long, or until it ends. */
@@ -225,6 +226,17 @@ static struct amount take_amount(void) {
     return amount;
 }
 
+/* Returns what says at the end who was held up, by the variables. */
+static struct showing take_showing(void) {
+    struct showing showing = {
+        .path = take_variable("PIM_RECORD_SHOW"),
+        .how = take_variable("PIM_RECORD_HOW"),
+        .name = take_variable("PIM_RECORD_NAME"),
+    };
+    if (!showing.how || !showing.name) showing.path = NULL;
+    return showing;
+}
+
 /* Records a program that runs already, by the arguments and the variables. */
 static _Noreturn void run_beside(char **arguments) {
     const char *time = arguments[3];
@@ -233,6 +245,7 @@ static _Noreturn void run_beside(char **arguments) {
         .is_limited = time != NULL,
         .kernel = take_variable("PIM_KERNEL"),
         .kilobytes = take_variable("PIM_KERNEL_KB"),
+        .showing = take_showing(),
     };
     if (time) wanted.nanoseconds = strtoull(time, NULL, 10);
     if (!wanted.kernel || !wanted.kilobytes) refuse(FAULT, "PIM_KERNEL", "it isn't set");
@@ -250,6 +263,7 @@ int main(int count, char **arguments) {
     wanted.kernel = take_variable("PIM_KERNEL");
     wanted.kilobytes = take_variable("PIM_KERNEL_KB");
     wanted.reader = take_variable("PIM_RECORD_READER");
+    wanted.showing = take_showing();
     if (!wanted.kilobytes) wanted.kernel = NULL;
     if (count < 3 || !(wanted.log || wanted.kernel)) {
         fprintf(stderr, "pim-launch: pim-record calls it\n");

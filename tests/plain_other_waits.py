@@ -1,19 +1,11 @@
-"""The waits of real-time threads for what isn't a mutex, and who ended each.
+"""Where the waits for what isn't a mutex begin and end in a log, and what ended each, for plain_facts_of_log.py. It looks
+through all records for each wait."""
+from record_logs import reader
 
-docs/OTHER-WAITS.md says what they are. It is a second implementation, as plain_findings.py is: for each wait it looks
-through all records.
-"""
-from collections import namedtuple
-
-from record_logs import log_facts, reader
-
-MOST = 10
 TIMED_OUT = 110  # ETIMEDOUT
 GIVEN, FAILED = "given", "failed"
 KINDS = {1: "semaphore", 2: "read lock", 3: "write lock", 4: "barrier", 5: "thread", 6: "condition variable"}
 LOCKS = "read lock", "write lock"
-# `by` is the thread that ended it, and `by_level` its level then. They and `outcome` may be None.
-Wait = namedtuple("Wait", "thread level began lasted is_open kind object outcome by by_level at by_at")
 
 
 def kind_of(record):
@@ -26,36 +18,10 @@ def same_kind(one, other):
 
 
 class Waits:
-    """The records of a log with a time, in order, and what is asked of them."""
+    """The records of a log in order, and what is asked of them."""
 
     def __init__(self, records):
         self.records = [record for record in records if record.event != reader.TEXT]
-        self.ended = max((record.time for record in self.records), default=0)
-        self.first = {}   # by thread the level of its first THREAD or, without one, 0
-        for record in self.records:
-            if record.event == reader.THREAD:
-                self.first[record.chunk.thread] = log_facts.level_of(record.detail, log_facts.OTHER_LEVEL)
-
-    def named(self, at):
-        """Returns the thread whose priority a record sets, or None."""
-        record = self.records[at]
-        for other in reversed(self.records[:at]):
-            if other.event == reader.THREAD:
-                same = ((other.chunk.process, other.object) == (record.chunk.process, record.object)
-                        if record.object else other.chunk.task == record.value)
-                if same:
-                    return other.chunk.thread
-        return None
-
-    def level(self, thread, at):
-        """Returns the level of a thread before a record."""
-        level = self.first.get(thread, log_facts.OTHER_LEVEL)
-        for place, record in enumerate(self.records[:at]):
-            if record.event == reader.THREAD and record.chunk.thread == thread:
-                level = log_facts.level_of(record.detail, log_facts.OTHER_LEVEL)
-            elif record.event == reader.PRIORITY and self.named(place) == thread:
-                level = log_facts.level_of(record.detail, level)
-        return level
 
     def end_of(self, begin, kind):
         """Returns the place of the record that ends a wait, and how it ended: None, GIVEN .. The place is None if it
@@ -94,34 +60,3 @@ class Waits:
         first = 0 if kind == KINDS[5] else begin + 1
         places = [at for at in range(first, end) if self.gives(self.records[at], begin, kind)]
         return places[-1] if places else None
-
-    def wait_at(self, begin):
-        """Returns the wait that a record begins, with its end's place, or None."""
-        record, kind = self.records[begin], kind_of(self.records[begin])
-        thread = record.chunk.thread
-        level = self.level(thread, begin)
-        found = self.end_of(begin, kind)
-        if kind is None or level == 0 or found is None:
-            return None
-        end, outcome = found
-        gift = self.ender(begin, end, kind) if outcome == GIVEN else None
-        if outcome == GIVEN and gift is None and kind == KINDS[4]:
-            return None
-        by = by_level = by_at = None
-        if gift is not None:
-            by, by_at = self.records[gift].chunk.thread, self.records[gift].place
-            by_level = self.level(by, end if kind == KINDS[5] else gift + 1)
-        lasted = max(0, (self.ended if end is None else self.records[end].time) - record.time)
-        return (len(self.records) + thread if end is None else end), Wait(
-            thread, level, record.time, lasted, end is None, kind, record.object, outcome, by, by_level, record.place,
-            by_at)
-
-    def longest_first(self):
-        begins = [at for at, record in enumerate(self.records) if record.event in (reader.WAIT, reader.CONDITION)]
-        found = filter(None, map(self.wait_at, begins))
-        return [wait for _, wait in sorted(found, key=lambda one: (-one[1].lasted, one[0]))]
-
-
-def waits_of(log):
-    """Returns the waits of a log, as log-readers read it. One of a version before 3 has none."""
-    return Waits(log.records).longest_first() if log.head.version >= reader.KINDS_SINCE else []

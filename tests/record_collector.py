@@ -8,7 +8,7 @@ import signal
 import subprocess
 
 from checks import ROOT, SECONDS, check, children_of, difference, ended, is_gone, orphan_of, proc_text, skip, until
-from record_logs import without_places
+from record_logs import without_end, without_places
 
 RECORD = ROOT / "record"
 PROGRAMS = RECORD / "out/programs"
@@ -18,8 +18,11 @@ OTHER_USER = 65534
 
 
 def run(*command, **how):
+    """Returns a finished run, without the last lines of pim-record."""
     how = {"capture_output": True, "text": True, "timeout": SECONDS, **how}
-    return subprocess.run([str(word) for word in command], **how)
+    done = subprocess.run([str(word) for word in command], **how)
+    done.stderr = without_end(done.stderr) if isinstance(done.stderr, str) else done.stderr
+    return done
 
 
 def without_imports(said):
@@ -51,7 +54,7 @@ class Running:
     def end(self):
         """Ends the program's input, and returns the status and what is left of the streams."""
         out, err = self.child.communicate(timeout=SECONDS)
-        return self.child.returncode, out, without_imports(err)
+        return self.child.returncode, out, without_imports(without_end(err or ""))
 
 
 def number_in(path, at):
@@ -366,7 +369,7 @@ def daemon(reader, broken, folder):
     running.child.stdin.write("go\n")
     running.child.stdin.flush()
     with os.fdopen(ours) as said:
-        line = said.readline()
+        line = without_end(said.readline()) + said.readline()
         started = until(lambda: [it for it in pathlib.Path(folder).glob("run.*") if has_pairs(reader, broken, it)])
         goes_on = not is_gone(collector)
         running.child.stdin.close()
@@ -510,8 +513,8 @@ def allocating(reader, broken, folder):
 
 def adopted(folder):
     """A recording that has ended leaves no process, dead or alive, to the one that adopts orphans."""
-    got = orphan_of(RECORD / "pim-record", "-o", f"{folder}/run", PROGRAMS / "pair", "10")
-    check("a recording leaves no process behind", difference(got, (0, ["none"], "")))
+    status, left, said = orphan_of(RECORD / "pim-record", "-o", f"{folder}/run", PROGRAMS / "pair", "10")
+    check("a recording leaves no process behind", difference((status, left, without_end(said)), (0, ["none"], "")))
 
 
 def collector(attempt, reader, broken, folder):

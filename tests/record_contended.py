@@ -2,16 +2,15 @@
 import os
 import pathlib
 
-import plain_findings
 from checks import check, difference, skip, until
 from record_collector import PROGRAMS, RECORD, counted, read, run
 from record_last import PAIRS, does, is_permitted, snapshot, started
 from record_logs import log_facts
+from record_report import MOST_RECORDINGS, Report
 
 CONTENDED = "--contended"
 MILLISECONDS = 1_000_000
 PROTECT = 0x40
-MOST_RECORDINGS = 40
 SKIPPED = 77  # the status of a program that lacks a right
 STEP = 1024  # calls that a thread counts at a time: MOST_UNCOUNTED of record/library/held.h
 
@@ -77,20 +76,13 @@ def beside(reader, broken, folder):
     check("a grant that is put later has its own time, and how long it took", None if fits else f"{granted}")
 
 
-def found(reader, path):
-    """Returns the waits of a log: who waited for whom, at which levels, for a mutex of which protocol; whether the
-    longest ownership of each mutex is known; the hand-overs; and how many deadlocks there are."""
-    raw = read(reader, path)
-    names = {r.object: r.text.decode() for r in raw.records if r.event == reader.NAME}
-    selves = {r.chunk.thread: r.object for r in raw.records if r.event == reader.THREAD}
-    name = {thread: names.get(it) for thread, it in selves.items()}
-    log = log_facts.Log(raw.records)
-    findings, deadlocks = plain_findings.findings_of(log_facts.facts_of(log)[0], log, False)
-    waits = [(name[w.thread], name.get(w.owner), w.level, w.owner_level, log.mutexes.protocol(w.mutex), w.is_open)
-             for w in findings.waits]
-    owned = [findings.longest(mutex) > 0 for mutex in {w.mutex for w in findings.waits}]
-    hand_overs = sorted((str(kind), n) for (_, kind), n in findings.hand_overs.items() if kind)
-    return sorted(waits, key=str), sorted(owned), hand_overs, len(deadlocks)
+def found(path):
+    """Returns why a log has no report, or None; its waits in words; whether the longest ownership of each mutex that was
+    waited for is known; and how many deadlocks there are."""
+    report = Report(path)
+    owned = {section["mutex"] for section in report.found["sections"] if section["longest"] > 0}
+    awaited = {wait["mutex"] for wait in report.found["waits"]}
+    return report.fault(), sorted(report.waits()), awaited <= owned, len(report.found["deadlocks"])
 
 
 def as_in_full(reader, broken, folder):
@@ -104,10 +96,9 @@ def as_in_full(reader, broken, folder):
             path = pathlib.Path(folder, "run")
             run(RECORD / "pim-record", "-o", path, "--last", "4M", *options, PROGRAMS / command.split()[0],
                 *command.split()[1:])
-            got.append((broken(read(reader, path)), *found(reader, path)))
+            got.append((broken(read(reader, path)), *found(path)))
         check(f"{command}: as in a log of all", difference(got[1], got[0]))
-        check(f"{command}: its waits", difference((len(got[1][1]),), (count,)))
-    check("passes: the waiter was passed over", difference(got[1][3], [("first", 1), ("last owner", 3)]))
+        check(f"{command}: its waits", difference((len(got[1][2]), got[1][3]), (count, True)))
     return None
 
 
@@ -122,7 +113,7 @@ def unannounced(reader, broken, folder):
             return skip("waits without a REQUEST", done.stdout.strip())
         log = read(reader, path)
         fault = broken(log)
-        others = [wait for wait in found(reader, path)[0] if wait[0] == "high" and wait[1] != "low"]
+        others = [wait for wait in Report(path).waits() if wait.startswith("high") and not wait.endswith("inverted")]
         _, lacking, _ = log_facts.facts_of(log_facts.Log(log.records))
         if fault or others or lacking:
             break
@@ -196,7 +187,7 @@ def goes_on(reader, broken, folder):
     request, = [r for r in log.records if r.event == reader.REQUEST]
     first = min(log.records, key=lambda r: r.number)
     return check("a snapshot amid a wait", broken(log) or difference(
-        (request.value, found(reader, path)[0]), (first.chunk.task, [("last", "last", 80, 0, "none", True)])))
+        (request.value, Report(path).waits()), (first.chunk.task, ["last (80) for none awaited of last (0): inverted"])))
 
 
 def refused(folder):

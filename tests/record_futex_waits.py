@@ -1,17 +1,7 @@
-"""What tests/record does with waits for futexes: pim-import finds in random texts of the kernel's events what
-plain_futex_waits.py finds. docs/FUTEX-WAITS.md says what they are. The texts are events of no program: most break laws of
+"""Random texts of the kernel's events, for record_to_facts.py. They are events of no program: most break laws of
 record/KERNEL.md, which a reader need not test."""
-import json
-import pathlib
 import random
-import subprocess
-from collections import Counter
 
-import plain_futex_waits
-from checks import check
-from record_import import IMPORTER
-
-TEXTS, FIRST_SEED = 300, 1
 TASKS, LINES, BEGAN = (11, 12, 13, 14), (5, 300), 1000
 HEAD = f"pim-kernel 2\nkernel 6.18.44 x86_64\nclock mono\nprocess 11\nbegan {BEGAN}\ncpus 2\n"
 PRIORITIES = 89, 89, 69, 69, 9, 0, -1, 98, 99, 120
@@ -47,36 +37,3 @@ def random_text(seed):
         lines.append(f"{times[-1]} " + (f"0 0 {words.split(' ', 2)[2]}" if what == "lost" else words))
     end = [] if seed % 4 == 0 else [f"end {times[-1] + choose.choice((0, 50))} 0 0"]
     return HEAD + "".join(f"{line}\n" for line in lines + end)
-
-
-def found_of(path, text):
-    """Returns what pim-import finds in a text: the longest, how many, and how many it leaves out."""
-    path.write_text(text)
-    done = subprocess.run([IMPORTER, "--json", "--kernel", path], capture_output=True, close_fds=False, text=True)
-    said = json.loads(done.stdout)
-    waits = [plain_futex_waits.Wait(
-        wait["thread"]["task"], wait["priority"], int(wait["futex"], 16), wait["began"], wait["lasted"],
-        wait["at_the_end"], wait.get("outcome"), wait.get("woken_by", {}).get("task"), wait.get("woken_by_priority"))
-        for wait in said["futex_waits"]]
-    return waits, said["futex_waits_in_all"], said["futex_waits_left_out"]
-
-
-def futex_waits(folder, texts=TEXTS):
-    """Compares random texts, whose seeds are fixed."""
-    path, differ, kinds = pathlib.Path(folder, "futex_waits.kernel"), [], Counter()
-    for seed in range(FIRST_SEED, FIRST_SEED + texts):
-        text = random_text(seed)
-        waits, left_out = plain_futex_waits.waits_of(text)
-        wanted = waits[:plain_futex_waits.MOST], len(waits), left_out
-        found = found_of(path, text)
-        kinds.update((wait.outcome, wait.by is not None, wait.by_level is not None) for wait in waits)
-        kinds["left out"] += left_out
-        kinds["missing"] += sum(wait.outcome is None and not wait.is_open for wait in waits)
-        kinds["more"] += len(waits) > plain_futex_waits.MOST
-        if found != wanted:
-            differ.append(f"text {seed}: {found} in place of {wanted}")
-    check(f"pim-import finds in {texts} random texts the waits for futexes", differ[0] if differ else None)
-    kinds_wanted = ("left out", "more", ("woken", True, True), ("woken", True, False), ("woken", False, False),
-                    ("timed out", False, False), ("interrupted", False, False), (None, False, False), "missing")
-    missing = [kind for kind in kinds_wanted if not kinds[kind]]
-    check("each kind of them is among these", f"no {missing}" if missing else None)

@@ -1,11 +1,10 @@
-"""What tests/record does with record/generate, whose logs are what was asked for, and with
-record/bench-import, which measures by them."""
+"""What tests/record does with record/generate, whose logs are what was asked for."""
 import pathlib
 import struct
 
 from checks import ROOT, answer, check, difference
 
-GENERATE, BENCH = str(ROOT / "record/out/generate"), str(ROOT / "record/bench-import")
+GENERATE = str(ROOT / "record/out/generate")
 THREADS, MUTEXES, RECORDS, PERCENT = 40, 200, 20000, 20
 OPTIONS = ["-n", RECORDS, "-t", THREADS, "-m", MUTEXES, "-c", PERCENT]
 FEW = (["-t", 1, "-m", 1], ["-t", 1, "-m", 3, "-c", 100], ["-t", 3, "-m", 1, "-c", 100],
@@ -192,63 +191,7 @@ def refused(folder):
         check(f"generate refuses {name}", difference(got, (2, b"", True, False)))
 
 
-def importer(folder, *lines):
-    """Returns the path of a shell script that stands for an importer."""
-    path = pathlib.Path(folder, "importer")
-    path.write_text("\n".join(["#!/bin/sh", 'test -s "$1" || exit 2', *lines, ""]))
-    path.chmod(0o755)
-    return path
-
-
-def bench(*arguments):
-    """Returns the status of bench-import, how many lines it prints, and what it says."""
-    command = [BENCH, "--records", "3000", "--runs", "1", *map(str, arguments)]
-    status, out, err = answer(command)
-    return status, out.decode().splitlines(), err.decode()
-
-
-def row_of(folder, fine):
-    """A line of bench-import has the records and the bytes by the log's header."""
-    path = pathlib.Path(folder, "same")
-    generate(path, "-n", 30000, "-t", 16, "-m", 1)
-    with open(path, "rb") as file:
-        head = file.read(256)
-    (numbers,), (chunks,) = struct.unpack_from("<Q", head, 128), struct.unpack_from("<Q", head, 192)
-    size = (69632 + 16384 * chunks) / MEGABYTE
-    row = bench("--records", 30000, "--only", "one mutex", fine)[1][1].split()
-    wanted = ["one", "mutex", str(numbers - 1), f"{size:.1f}"]
-    check("the log's size in bench-import", difference((row[:4], len(row)), (wanted, 7)))
-    memory, ratio = float(row[5]), float(row[6])  # of a child of python, which takes some megabytes
-    fits = 1 < memory < 64 and abs(memory / size - ratio) < 0.1
-    check("the memory in bench-import", None if fits else f"{row}")
-
-
-def measures(folder):
-    """bench-import has a line for each log, and its status says whether the limits are kept."""
-    spins = "i=0; while [ $i -lt 2000000 ]; do i=$((i+1)); done"
-    hoards = "exec python3 -I -S -c 'b\"x\" * (64 << 20)'"
-    fine = importer(folder, "exit 1")
-    status, lines, said = bench(fine)
-    check("bench-import measures five logs", difference((status, len(lines), said), (0, 7, "")))
-    row_of(folder, fine)
-    for name, line, wanted in (("takes too long", spins, 1), ("takes too much memory", hoards, 1),
-                               ("fails", "exit 2", 2), ("is killed", "kill -9 $$", 2)):
-        slow = importer(folder, line)
-        got = bench("--only", "one mutex", slow)[0]
-        check(f"bench-import of an importer that {name}", difference((got,), (wanted,)))
-    status, _, said = bench(f"{folder}/nothing")
-    wanted = 2, f"bench-import: {folder}/nothing: No such file or directory\n"
-    check("bench-import without an importer", difference((status, said), wanted))
-    status, _, said = bench("--records", 2**32, fine)
-    check("bench-import of a log that isn't generated",
-          difference((status, said.splitlines()[1:]),
-                     (2, ["bench-import: the log of 5 % wait wasn't generated"])))
-    for option in ("--records", "--runs"):
-        check(f"bench-import {option} 0", difference(bench(option, 0, fine)[:1], (2,)))
-
-
 def generated(reader, broken, folder):
     of_options(reader, broken, folder)
     few(reader, broken, folder)
     refused(folder)
-    measures(folder)

@@ -4,6 +4,7 @@ import re
 import subprocess
 
 from checks import ROOT, answer, check, difference, skip
+from record_logs import without_end
 
 PAGE = ROOT / "docs/INHERIT.md"
 RECORD = ROOT / "record"
@@ -40,8 +41,8 @@ def inherit(folder):
     check("the mutexes of docs/INHERIT.md compile", why)
     if why:
         return None
-    done = answer([RECORD / "pim-record", "-o", f"{folder}/run", f"{folder}/inherits"])
-    check("a program with them is recorded", difference(done, (0, b"", b"")))
+    status, out, err = answer([RECORD / "pim-record", "-o", f"{folder}/run", f"{folder}/inherits"])
+    check("a program with them is recorded", difference((status, out, without_end(err.decode())), (0, b"", "")))
     status, out, _ = answer([RECORD / "pim-log", f"{folder}/run"])
     text = out.decode()
     wanted = {"init": {"inherit"}, "granted": {"inherit"}, "release": {"inherit"}}

@@ -13,7 +13,8 @@ import time
 
 from checks import (ROOT, SECONDS, check, children_of, difference, ended, is_gone, orphan_of, proc_text, skip, stat_of,
                     until)
-from record_collector import without_imports
+from record_collector import run, without_imports
+from record_logs import without_end
 
 RECORD = ROOT / "record"
 PROGRAMS = RECORD / "out/programs"
@@ -21,11 +22,6 @@ STORED = RECORD / "recorded"
 
 sys.path.insert(0, str(RECORD))
 import kernel_text
-
-
-def run(*command, **how):
-    how = {"capture_output": True, "text": True, "timeout": SECONDS, **how}
-    return subprocess.run([str(word) for word in command], **how)
 
 
 def faults_of(data):
@@ -442,7 +438,8 @@ def streams(folder, tracefs):
     """Who waits for the end of the program's streams waits no longer than for the recorder and the program."""
     text = f"{RECORD}/pim-record --kernel -o {folder}/run sh -c 'echo out; echo err >&2' 2>&1 | cat"
     done = run("sh", "-c", text)
-    check("a pipe of both streams ends", difference((done.returncode, done.stdout, done.stderr), (0, "out\nerr\n", "")))
+    got = (done.returncode, without_end(done.stdout), done.stderr)
+    check("a pipe of both streams ends", difference(got, (0, "out\nerr\n", "")))
     ours, its = os.pipe()
     high = fcntl.fcntl(its, fcntl.F_DUPFD, 200)
     child = started(folder, PROGRAMS / "keys", pass_fds=[its, high])
@@ -464,8 +461,8 @@ def streams(folder, tracefs):
 
 def adopted(folder):
     """A recording that has ended leaves no process, dead or alive, to the one that adopts orphans."""
-    got = orphan_of(RECORD / "pim-record", "--kernel", "-o", f"{folder}/run", "true")
-    check("a recording leaves no process", difference(got, (0, ["none"], "")))
+    status, left, said = orphan_of(RECORD / "pim-record", "--kernel", "-o", f"{folder}/run", "true")
+    check("a recording leaves no process", difference((status, left, without_end(said)), (0, ["none"], "")))
 
 
 def settings(folder, tracefs):
@@ -586,7 +583,7 @@ def lost(folder, tracefs):
     times = [f"{(time - text.head.began) / 1e9:.6f}" for time in (first, last)]
     wanted = f"pim-record: {count} of the kernel's events were lost, in {len(told)} stretches from {times[0]} s to" \
              f" {times[1]} s; {folder}/run.kernel has each\n"
-    check("lost events are reported on standard error", difference((said,), (wanted,)))
+    check("lost events are reported on standard error", difference((without_end(said),), (wanted,)))
     done = run(RECORD / "pim-log", "--check", f"{folder}/run.kernel")
     lines = [line for line in done.stdout.splitlines() if "events were lost, from" in line]
     check("lost events are reported by --check", difference((done.returncode, len(lines)), (0, len(told))))

@@ -4,6 +4,7 @@ import importlib
 import importlib.machinery
 import importlib.util
 import pathlib
+import re
 import struct
 import sys
 
@@ -29,6 +30,12 @@ log_facts = importlib.import_module("log_facts")  # of record/, as pim-log
 def without_places(paths):
     """Returns the paths but for those of files that name places, sorted: they aren't there without addr2line."""
     return sorted(path for path in map(pathlib.Path, paths) if path.suffix != ".places")
+
+
+def without_end(said):
+    """Returns what pim-record says, but for how to see the report, and which programs have logs of their own."""
+    return re.sub(r"(?m)^pim-record: (.* is recorded; .*pim-report .* says who was held up|programs that it started .*)\n",
+                  "", said)
 
 
 def version_of(rows, places):

@@ -1,7 +1,7 @@
 """The part of tests/record about record/from-lttng: what it makes of events by hand, and of a program that LTTng traces.
 
-`python3 tests/record_lttng.py` plays it alone, with the pim-import that is built. The last part is skipped without
-Debian's lttng-tools, liblttng-ust-dev and babeltrace2.
+`python3 tests/record_lttng.py` plays it alone. The last part is skipped without Debian's lttng-tools, liblttng-ust-dev and
+babeltrace2.
 """
 import os
 import pathlib
@@ -13,7 +13,7 @@ import tempfile
 from contextlib import contextmanager
 
 from checks import ROOT, answer, check, difference, end, skip, until
-from record_import import IMPORTER
+from record_report import REPORT, ROWS
 
 SCRIPT, PROGRAM = ROOT / "record/from-lttng", ROOT / "record/out/programs/inversion"
 TOOLS = ("lttng", "lttng-sessiond", "babeltrace2")
@@ -30,10 +30,10 @@ def line(time, thread, what, mutex, status=None, process=9, clock="1795778223.{:
 
 
 def facts(text, *options):
-    """Returns status, the facts behind the declarations, and what was said."""
+    """Returns status, the facts between the declarations and the end, what was said, and all lines."""
     status, out, err = answer([str(SCRIPT), *options], text.encode())
     lines = out.decode().splitlines()
-    return status, [it for it in lines if it[0].isdigit()], err.decode(), lines
+    return status, [it for it in lines if it[0].isdigit() and not it.endswith(" end")], err.decode(), lines
 
 
 def events(*rows):
@@ -52,7 +52,7 @@ CASES = {
         ["0 1 granted 16", "4000 2 waits 16", "7000 1 released 16", "7000 2 granted 16", "11000 2 released 16"], ""),
     "a mutex that is free as it is asked for may go to another": (
         [(0, 2, "lock_req", 16), (1, 1, "trylock", 16, 0), (4, 1, "unlock", 16, 0), (5, 2, "lock_acq", 16, 0)],
-        ["0 2 waits 16", "1000 1 granted 16", "4000 1 released 16", "5000 2 granted 16"], ""),
+        ["0 2 waits 16", "1000 1 took 16", "4000 1 released 16", "5000 2 granted 16"], ""),
     "a condition wait releases its mutex, and locks it again": (
         [(0, 1, "lock_acq", 16, 0), (5, 2, "lock_req", 16), (6, 2, "lock_acq", 16, 0), (8, 2, "unlock", 16, 0),
          (9, 1, "unlock", 16, 0)],
@@ -62,7 +62,7 @@ CASES = {
         [(0, 2, "lock_req", 16), (7, 1, "unlock", 16, 0), (8, 2, "lock_acq", 16, 0)],
         ["0 2 waits 16", "7000 1 granted 16", "7000 1 released 16", "8000 2 granted 16"], "from-lttng: 1 ownerships"),
     "an unlock without a lock is left out": (
-        [(0, 1, "unlock", 16, 0), (1, 2, "trylock", 32, 0)], ["1000 2 granted 32"], "from-lttng: 1 unlocks"),
+        [(0, 1, "unlock", 16, 0), (1, 2, "trylock", 32, 0)], ["1000 2 took 32"], "from-lttng: 1 unlocks"),
     "a recursive mutex": (
         [(0, 1, "lock_acq", 16, 0), (1, 1, "lock_req", 16), (2, 1, "lock_acq", 16, 0), (3, 2, "lock_req", 16),
          (4, 1, "unlock", 16, 0), (5, 1, "unlock", 16, 0), (6, 2, "lock_acq", 16, 0)],
@@ -70,13 +70,16 @@ CASES = {
          "6000 2 granted 16"], ""),
     "a thread that locks its own mutex and goes no further": (
         [(0, 1, "lock_acq", 16, 0), (2, 1, "lock_req", 16)], ["0 1 granted 16", "2000 1 waits 16"], ""),
+    "the same of a recursive mutex, whose lock would have been granted": (
+        [(0, 1, "lock_acq", 16, 0), (1, 1, "lock_acq", 16, 0), (2, 1, "lock_req", 16)],
+        ["0 1 granted 16", "1000 1 granted 16"], ""),
     "a lock that is refused, and tries of an owned mutex": (
         [(0, 1, "lock_acq", 16, 0), (1, 1, "lock_req", 16), (2, 1, "lock_acq", 16, 35), (3, 2, "trylock", 16, 16),
          (4, 2, "unlock", 16, 1), (5, 2, "lock_req", 16), (6, 2, "lock_acq", 16, 22), (7, 1, "unlock", 16, 0)],
         ["0 1 granted 16", "5000 2 waits 16", "6000 2 gave-up 16", "7000 1 released 16"], ""),
     "a wait whose end isn't told": (
         [(0, 1, "lock_acq", 16, 0), (1, 2, "lock_req", 16), (3, 2, "trylock", 32, 0)],
-        ["0 1 granted 16", "1000 2 waits 16", "3000 2 gave-up 16", "3000 2 granted 32"], ""),
+        ["0 1 granted 16", "1000 2 waits 16", "3000 2 gave-up 16", "3000 2 took 32"], ""),
     "an owner that died": (
         [(0, 1, "lock_acq", 16, 0), (1, 2, "lock_req", 16), (4, 2, "lock_acq", 16, 130)],
         ["0 1 granted 16", "1000 2 waits 16", "4000 1 released 16", "4000 2 granted 16"], ""),
@@ -86,9 +89,10 @@ CASES = {
 def by_hand():
     """Events whose facts are known, and how what is said of them begins."""
     for name, (rows, wanted, said) in CASES.items():
-        status, got, err, _ = facts(events(*rows))
+        status, got, err, lines = facts(events(*rows))
         is_said = err.startswith(said) if said else not err
-        check(f"from-lttng: {name}", difference((status, got), (0, wanted)) or (None if is_said else err))
+        fault = answer(ROWS.split(), "".join(f"{it}\n" for it in lines).encode())[2].decode()
+        check(f"from-lttng: {name}", difference((status, got), (0, wanted)) or fault or (None if is_said else err))
 
 
 def declarations():
@@ -103,7 +107,8 @@ def declarations():
     }
     for options, wanted in given.items():
         status, _, err, lines = facts(text, *options)
-        why = difference((status, err, lines[:7]), (0, "", ["facts 1", *wanted]))
+        begin = ["facts 1", "unseen timed locks, condition variables, and all but POSIX mutexes"]
+        why = difference((status, err, lines[:8], lines[-1]), (0, "", [*begin, *wanted], "3000 end"))
         check(f"from-lttng declares {' '.join(options) or 'all'}", why)
 
 
@@ -113,7 +118,7 @@ def clocks():
     text = line(999998, 1, "trylock", 16, 0, clock=evening) + "[00:00:00.000000000] vm sched_switch: { }, { }\n"
     text += line(3, 1, "unlock", 16, 0, clock=morning)
     got = facts(text)[:3]
-    check("from-lttng: times of day", difference(got, (0, ["0 1 granted 16", "5000 1 released 16"], "")))
+    check("from-lttng: times of day", difference(got, (0, ["0 1 took 16", "5000 1 released 16"], "")))
 
 
 def refused():
@@ -134,7 +139,7 @@ def refused():
         got = (status, lines, err.startswith(f"from-lttng: {wanted}"))
         check(f"from-lttng refuses {name}", difference(got, (2, [], True)) and err)
     status, got, err, _ = facts(several, "--pid", "8")
-    check("from-lttng --pid", difference((status, got, err), (0, ["0 2 granted 16"], "")))
+    check("from-lttng --pid", difference((status, got, err), (0, ["0 2 took 16"], "")))
     for options in (("--level", "high=100"), ("--protocol", "ceiling"), ("--protocol", "protect:0"), ("nothing",)):
         status, _, err, lines = facts(one, *options)
         check(f"from-lttng {' '.join(options)}", difference((status, lines, bool(err)), (2, [], True)))
@@ -189,10 +194,10 @@ def live(folder):
         return skip(name, "threads may have no real-time priority here")
     status, _, err, lines = facts(text, "--level", "high=30", "--level", "low=10")
     check(f"the facts of {name}", None if status == 0 else f"{done}: {err}")
-    status, out, err = answer([str(IMPORTER), "--facts", "-"], "\n".join(lines).encode(), cwd=folder)
-    wanted = r"high\[\d+\], at 30, waited \S+ ms from \S+ s on for mutex \d+ \(none\) of low\[\d+\], at 10: not bounded"
+    status, out, err = answer([str(REPORT), "--findings", ROWS, "--facts", "-"], "\n".join(lines).encode())
+    wanted = r"Worst: high \(30\) waited \S+ ms for low \(10\)\."
     is_told = any(re.match(wanted, it) for it in out.decode().splitlines())
-    check(f"the findings of {name}", None if (status, is_told) == (1, True) else f"{status}: {out}{err}")
+    check(f"the report of {name}", None if (status, is_told) == (1, True) else f"{status}: {out}{err}")
 
 
 def lttng(folder):

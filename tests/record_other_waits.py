@@ -1,18 +1,9 @@
-"""What tests/record does with waits for what isn't a mutex: pim-import finds in random logs what plain_other_waits.py
-finds. docs/OTHER-WAITS.md says what they are. The logs are records of no program: most break laws of record/FORMAT.md,
-which a reader need not test."""
-import json
-import pathlib
+"""Random logs with waits for what isn't a mutex, for record_to_facts.py. They are records of no program: most break laws
+of record/FORMAT.md, which a reader need not test."""
 import random
-import subprocess
-from collections import Counter
 
-import plain_other_waits
-from checks import check
-from record_import import IMPORTER
 from record_logs import log_of, reader
 
-LOGS, FIRST_SEED = 200, 1
 THREADS, RECORDS, PROCESS, SECOND_PROCESS = 5, (5, 120), 100, 200
 NONE, LOCK, CONDITION = 0x04, 0, 4
 OBJECTS, SELVES, MUTEX = (0x600, 0x600, 0x700), (0x10, 0x20), 0x500
@@ -52,37 +43,3 @@ def random_log(seed):
     times = [10_000 + 100 * at + choose.choice((0, 0, 150)) for at in range(len(rows))]
     processes = {THREADS: SECOND_PROCESS if choose.random() < 0.3 else PROCESS}
     return bytes(log_of(rows, THREADS, times, processes=processes))
-
-
-def wanted_of(data):
-    """Returns what the plain implementation finds in a log."""
-    log = reader.Log(data)
-    task = {record.chunk.thread: record.chunk.task for record in log.records}
-    return [(task[wait.thread], wait.level, wait.began, wait.lasted, wait.is_open, wait.kind, wait.object, wait.outcome,
-             task.get(wait.by), wait.by_level) for wait in plain_other_waits.waits_of(log)]
-
-
-def found_of(path, data):
-    """Returns what pim-import finds in a log: how many, and the longest."""
-    path.write_bytes(data)
-    done = subprocess.run([IMPORTER, "--json", path], capture_output=True, close_fds=False, text=True)
-    said = json.loads(done.stdout)
-    return said["other_waits_in_all"], [
-        (wait["thread"]["task"], wait["priority"], wait["began"], wait["lasted"], wait["at_the_end"], wait["kind"],
-         int(wait["object"], 16), wait.get("outcome"), wait["ended_by"]["task"] if "ended_by" in wait else None,
-         wait.get("ended_by_priority")) for wait in said["other_waits"]]
-
-
-def other_waits(folder, logs=LOGS):
-    """Compares random logs, whose seeds are fixed."""
-    path, differ, kinds = pathlib.Path(folder, "other_waits"), [], Counter()
-    for seed in range(FIRST_SEED, FIRST_SEED + logs):
-        data = random_log(seed)
-        wanted = wanted_of(data)
-        count, found = found_of(path, data)
-        kinds.update((wait[5], wait[7], wait[8] is not None) for wait in wanted)
-        if (count, found) != (len(wanted), wanted[:plain_other_waits.MOST]):
-            differ.append(f"log {seed}: {count} {found} in place of {len(wanted)} {wanted}")
-    check(f"pim-import finds in {logs} random logs the waits for what isn't a mutex", differ[0] if differ else None)
-    missing = [kind for kind in plain_other_waits.KINDS.values() if not kinds[kind, "given", True]]
-    check("each kind of wait is among them, ended by a thread that is known", f"no {missing}" if missing else None)

@@ -16,6 +16,7 @@ import tempfile
 
 from checks import check, difference, end, ended, proc_text, skip, stat_of, threads_of, until
 from record_futex import differs, said_waits
+from record_logs import without_end
 from record_kernel import PROGRAMS, RECORD, Tracefs, end_started, faults_of, kernel_text, play, run, start
 
 FUTEX = {"x86_64": 202, "aarch64": 98}  # the number of the call
@@ -56,7 +57,7 @@ class Attached:
     def end(self):
         """Waits for its end. Returns the status and what it said."""
         status = ended(self.child)
-        return status, self.child.stdout.read() + self.child.stderr.read()
+        return status, self.child.stdout.read() + without_end(self.child.stderr.read())
 
     def text(self):
         return kernel_text.KernelText(self.path.read_bytes())
@@ -208,8 +209,9 @@ def names(folder):
     empty = pathlib.Path(folder, "empty")
     empty.mkdir()
     done = run(RECORD / "pim-record", "--pid", program.pid, "--for", "1ms", cwd=empty)
-    got = (done.returncode, done.stderr, [path.name for path in empty.iterdir()])
-    check("the default name", difference(got, (0, "", [f"sleep.{program.pid}.pimlog.kernel"])))
+    name = f"sleep.{program.pid}.pimlog.kernel"
+    got = (done.returncode, f"pim-record: {name} is kept; " in done.stderr, [path.name for path in empty.iterdir()])
+    check("the default name", difference(got, (0, True, [name])))
     before[1].write_text("a letter\n")
     done = run(RECORD / "pim-record", "--pid", program.pid, "--for", "1ms", "-o", before[0])
     got = (done.returncode, "isn't a recording; nothing was recorded" in done.stderr, before[1].read_text())

@@ -501,26 +501,27 @@ def latest(broken, folder):
 
 
 def facts(_, folder):
-    """pim-log --facts has the place of each call: its line, or the file and the offset where there is no such text."""
+    """pim-facts has the place of each call: its line and function, or the file and the offset where there is no such
+    text."""
     program = compiled(folder, "plan.c", PLAN)
     _, path = recorded(folder, program)
-    names = {words.split()[1] for words in (*PLANNED[1], *PLANNED[2])}
-    numbers = [number for number, line in enumerate(PLAN.splitlines(), 1) if line.rpartition("// ")[2] in names]
+    number = {line.rpartition("// ")[2]: at for at, line in enumerate(PLAN.splitlines(), 1)}
+    places = {f"plan.c:{number[words.split()[1]]}({words.split()[2]})" for words in (*PLANNED[1], *PLANNED[2])}
     got = places_of_facts(path)
     ends = {line.partition(" at=")[2].partition(" ")[2] for line in run(RECORD / "pim-log", path).stdout.splitlines()}
     wanted = {"", *(text for _, text in texts_of(path).values())}
     check("the lines of a listing", difference([ends], [wanted]))
-    check("the lines of facts", difference([set(got)], [{f"plan.c:{number}" for number in numbers}]))
+    check("the lines of facts", difference([set(got)], [places]))
     pathlib.Path(f"{path}.places").unlink()
     offsets = places_of_facts(path)
     found = [place for place in offsets if re.fullmatch(r"plan\+0x[0-9a-f]+", place)]
-    check("the offsets of facts", difference((len(found), len(set(found))), (len(got), len(numbers))))
+    check("the offsets of facts", difference((len(found), len(set(found))), (len(got), len(places))))
 
 
 def places_of_facts(path):
-    """Returns the last word of each fact of a mutex."""
-    said = run(RECORD / "pim-log", "--facts", path).stdout.splitlines()
-    return [line.split()[-1] for line in said if re.match(r"\d+ \d+ (granted|waits|gave-up|released) ", line)]
+    """Returns the place of each fact of a mutex."""
+    said = run(RECORD / "out/pim-facts", path).stdout.splitlines()
+    return [line.split()[4] for line in said if re.match(r"\d+ \d+ (granted|waits|gave-up|released) ", line)]
 
 
 # ---- logs by hand

@@ -8,6 +8,7 @@ import subprocess
 import tempfile
 
 from checks import ROOT, answer, check, difference, end
+from record_logs import without_end
 
 PIM_RECORD = ROOT / "record/pim-record"
 CALLS = {
@@ -61,7 +62,7 @@ def built(folder, *names):
 def said(folder, program):
     """Returns the status of a recorded program, and what pim-record says."""
     status, _, err = answer([str(PIM_RECORD), "-o", f"{folder}/run", str(program)])
-    return status, err.decode()
+    return status, without_end(err.decode())
 
 
 def without_sections(program, begin):

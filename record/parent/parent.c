@@ -7,7 +7,6 @@
 #include "ordinary.h"
 
 #include <errno.h>
-#include <fcntl.h>
 #include <signal.h>
 #include <stdbool.h>
 #include <stdio.h>
@@ -150,27 +149,11 @@ static void say_snapshots(const struct report *report) {
                 report->unwritten);
 }
 
-/* Becomes pim-log, which says nothing: what it needs may be missing. A key of the terminal ends it,
- * and doesn't stop it. */
-static _Noreturn void be_reader(const char *reader, const char *log) {
-    static const int stops[] = { SIGTSTP, SIGTTIN, SIGTTOU };
-    sigset_t none;
-    int nowhere = open("/dev/null", O_RDWR);
-    prctl(PR_SET_PDEATHSIG, SIGKILL);
-    for (int stream = 0; stream < 3; stream++) dup2(nowhere, stream);
-    for (size_t i = 0; i < sizeof stops / sizeof *stops; i++) signal(stops[i], SIG_IGN);
-    sigemptyset(&none);
-    sigprocmask(SIG_SETMASK, &none, NULL);
-    execl(reader, reader, "--places", log, NULL);
-    _exit(FAULT);
-}
-
-/* Has the places of the logs named, while the files of the program are as it ran. */
+/* Has the places of the logs named, while the files of the program are as it ran. What pim-log needs
+ * for that may be missing: it says nothing. */
 static void name_places(void) {
-    const char *reader = parent.wanted->reader;
-    pid_t child = reader ? fork() : -1;
-    if (child == 0) be_reader(reader, parent.wanted->log);
-    if (child > 0) waitpid(child, NULL, 0);
+    const struct wanted *wanted = parent.wanted;
+    if (wanted->reader) run_script(wanted->reader, "--places", wanted->log, true);
 }
 
 /* Has the collector write what is there. Returns whether there is a log. */
@@ -214,10 +197,12 @@ static _Noreturn void be_parent(pid_t program, const sigset_t *awaited, int chan
     send(channel, "x", 1, MSG_NOSIGNAL);
     int status = wait_until_end(program, awaited);
     bool has_log = parent.wanted->log && end_logs();
+    bool is_recorded = parent.wanted->kernel ? is_run(status, channel, has_log) : has_log;
     if (parent.wanted->kernel)
-        end_kernel(is_run(status, channel, has_log));
+        end_kernel(is_recorded);
     else
         end_guard(&parent.guard, NULL);
+    if (is_recorded) show_recording(&parent.wanted->showing);
     end_as(status);
 }
 

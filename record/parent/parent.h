@@ -4,6 +4,7 @@
 #define PARENT_H
 
 #include "../collector/collector.h"
+#include "scripts.h"
 
 struct wanted {
     const char *log;       /* the log's file, or NULL where no log is made */
@@ -12,6 +13,7 @@ struct wanted {
     const char *kilobytes; /* for events of each CPU */
     const char *reader;    /* the path of pim-log, which names places, or NULL */
     const char *program;   /* the path of its binary */
+    struct showing showing;
 };
 
 /* Forks. Returns in the child, in which the program is to be executed, with the name of the

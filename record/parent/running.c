@@ -88,5 +88,7 @@ _Noreturn void record_running(const struct running *wanted) {
     const char *missing = turn_on_kernel(wanted->process, is_over);
     if (missing) give_up_kernel(missing);
     read_until_end(wanted);
-    exit(end_kernel(true) ? 0 : FAULT);
+    int status = end_kernel(true) ? 0 : FAULT;
+    show_recording(&wanted->showing);
+    exit(status);
 }

@@ -2,6 +2,8 @@
 #ifndef RUNNING_H
 #define RUNNING_H
 
+#include "scripts.h"
+
 #include <stdbool.h>
 #include <stdint.h>
 #include <sys/types.h>
@@ -12,6 +14,7 @@ struct running {
     uint64_t nanoseconds;  /* how long, if it is */
     const char *kernel;    /* the file of the kernel's events */
     const char *kilobytes; /* for events of each CPU */
+    struct showing showing;
 };
 
 /* Records until the time is over, the program ends, or SIGINT, SIGTERM or SIGHUP comes; and ends
