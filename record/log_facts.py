@@ -1,7 +1,6 @@
-"""The facts of a log: what happened to each thread, by record/FORMAT.md and docs/FINDINGS.md.
-
-`pim-log --facts` prints them. It is a second implementation of what pim-import reads, which
-tests/record_plain.py compares with it. It is short, and nothing of it is taken from the crates.
+"""What happened to each thread of a log, by record/FORMAT.md: who was granted, awaited and released
+which mutex. tests/plain_facts_of_log.py makes facts of it, which tests/record_to_facts.py compares
+with those of pim-facts.
 """
 import bisect
 import importlib.machinery
