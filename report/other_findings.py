@@ -95,10 +95,10 @@ class OtherFindings:
     # ---- other waits
 
     def others(self):
-        """Waits for what isn't a mutex, of real-time threads."""
-        groups = {}
+        """Waits for what isn't a mutex, of real-time threads, or of all if none is one."""
+        groups, is_real_time = {}, self.has_real_time()
         for wait in self.rows.blocked:
-            if wait.level:
+            if wait.level or not is_real_time:
                 where = self.facts.place(wait.line) or self.names.stem(wait.thread)
                 groups.setdefault((where, self.names.object(wait.object)), []).append(wait)
         for (_, what), group in groups.items():
@@ -108,6 +108,11 @@ class OtherFindings:
             is_look = bool(by_lower) and kind != "thread"
             group = sorted(by_lower if is_look else group, key=lambda wait: -wait.lasted)
             yield self.other(group, what, is_look)
+
+    def has_real_time(self):
+        """Returns whether a thread that waited, or owned a mutex, was a real-time one then."""
+        rows = self.recording.all_rows
+        return any(one.level for one in (*rows.blocked, *rows.waits, *rows.sections))
 
     def other(self, group, what, is_look):
         worst, does = group[0], GIVES[self.facts.objects[group[0].object].kind][1]

@@ -17,7 +17,7 @@ TITLES = {
     "orders": "CAN DEADLOCK: mutexes that are locked in both orders (lock-order inversion, AB-BA)",
     "bounded": "BOUNDED: waits for less urgent threads that a protocol keeps short",
     "wait": "PLAIN WAITS: for threads that are as urgent, or more",
-    "other": "OTHER WAITS of real-time threads",
+    "other": "OTHER WAITS",
 }
 FOR = {"late": "held up by", "stalled": "for", "bounded": "for", "wait": "for", "look": "until",
        "other": "until"}
@@ -76,7 +76,8 @@ class Terminal:
             self.title(TITLES[kind])
         else:
             what = "time" if kind == "ran" else "wait"
-            self.title(f"{TITLES[kind]}: {count(times, what)}")
+            whose = " of real-time threads" if kind == "other" and found[0].who[0][1] else ""
+            self.title(f"{TITLES[kind]}{whose}: {count(times, what)}")
             head = f"{'times':>7} {'worst':>9} {'sum':>9}  which thread, for which, at what"
             self.lines.append(self.styled("soft", head))
         for one in found[:self.most]:
