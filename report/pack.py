@@ -124,7 +124,7 @@ class Packed:
         stays = parts_of(self.stretches.stays.get(thread, ()), 2)
         kept = [(begin, end - begin) for begin, end in stays if self.is_kept(begin, end)]
         self.put_in_order(kept)
-        self.put_in_order(parts_of(self.stretches.gets.get(thread, ()), 3))
+        self.put_in_order(parts_of(self.stretches.levels.get(thread, ()), 3))
         self.put_in_order([(one.begin, one.lasted, one.level, one.gets) for one in ran])
         if self.windows is not None:
             self.put_shares(owns)

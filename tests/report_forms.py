@@ -320,7 +320,7 @@ def stretches(found):
             world.apply(line)
         shown = Stretches(one.facts)
         for thread, declared in one.facts.threads.items():
-            column = shown.gets.get(thread, [])
+            column = shown.levels.get(thread, [])
             changes = [(column[at], tuple(column[at + 1:at + 3]))
                        for at in range(0, len(column), 3)]
             got = times_of(changes, (declared.level,) * 2, world.clock)
