@@ -34,6 +34,7 @@ that is.
   -t, --thread NAME    show only what a thread has a part in. A number will do, too
   -m, --mutex NAME     show only what is of a mutex, or of a semaphore and the like
   -s, --since TIME     show only what lasted at TIME or later, as 1.5s, 200ms or 10us
+      --perfetto FILE  write tracks over time too, as Trace Event JSON for ui.perfetto.dev
       --findings COMMAND   what makes rows of facts. Without it, pim-findings is looked for next to
                        pim-report, and on PATH
       --converter COMMAND  what makes facts of a recording; without it, pim-facts
@@ -79,7 +80,7 @@ def arguments(words):
         parser.add_argument(short, f"--{name}", action="store_true")
     parser.add_argument("-n", "--top", type=number_of)
     parser.add_argument("-s", "--since", type=time_of, default=0)
-    for name in ("findings", "converter"):
+    for name in ("perfetto", "findings", "converter"):
         parser.add_argument(f"--{name}")
     given = parser.parse_args(words)
     if bool(given.recording) == bool(given.facts):
@@ -112,6 +113,9 @@ def report(given):
         findings = Findings(recording)
         if given.html:
             write_page(given, findings)
+        if given.perfetto:
+            from perfetto import write_perfetto
+            write_perfetto(given.perfetto, recording)
         text = text_of(given, findings)
     sys.stdout.write(text)
     sys.stdout.flush()

@@ -15,6 +15,7 @@ Lost = namedtuple("Lost", "line time count")
 IS_PLACE = re.compile(r".*(:\d+|\+0x[0-9a-f]+)(\([^()]*\))?$|0x[0-9a-f]+$")
 # After how many words a line of this kind has its places.
 WORDS_BEFORE = {b"ceiling": 5, b"off": 4}
+HAVE_FOUR = [b"waits"], [b"granted"], [b"took"]
 OF_OWNERS = [b"granted"], [b"took"], [b"released"]
 
 
@@ -138,7 +139,7 @@ class Facts:
     def place(self, line):
         """Returns the innermost place of a line, or an empty text."""
         words = self.lines[line - 1].split(b" ", 5)
-        if line and words[2:3] == [b"waits"]:  # most of them
+        if line and words[2:3] in HAVE_FOUR:  # most of them
             return words[4].decode() if len(words) > 4 else ""
         return next(iter(self.places(line)), "")
 
