@@ -35,9 +35,15 @@ that is.
   -m, --mutex NAME     show only what is of a mutex, or of a semaphore and the like
   -s, --since TIME     show only what lasted at TIME or later, as 1.5s, 200ms or 10us
       --perfetto FILE  write tracks over time too, as Trace Event JSON for ui.perfetto.dev
+      --trace FILE     write a trace too, which pim reads, if pim accepts it and says of each fact
+                       what the facts say
+      --from TIME      let the trace begin at TIME, with the state of that time
+      --to TIME        let the trace end at TIME. A trace has up to 256 threads and mutexes each,
+                       and 65,536 steps
       --findings COMMAND   what makes rows of facts. Without it, pim-findings is looked for next to
                        pim-report, and on PATH
       --converter COMMAND  what makes facts of a recording; without it, pim-facts
+      --judge COMMAND  what judges a trace; without it, pim
   -h, --help           this text
       --version        the version
 
@@ -49,7 +55,9 @@ thread for more than 50 us at another level than its mutexes give; 0 if not; 2 a
     $ pim-report run                       # the text
     $ pim-report run --html run.html       # the same as a page, with lanes over time
     $ pim-report --facts run.facts --thread servo --json
+    $ pim-report run --trace run.pim --from 1.2s --to 1.25s
 """
+ALWAYS = 0, 10**19
 ROOTS = pathlib.Path(__file__).resolve().parent, pathlib.Path(__file__).resolve().parent.parent
 
 
@@ -80,7 +88,9 @@ def arguments(words):
         parser.add_argument(short, f"--{name}", action="store_true")
     parser.add_argument("-n", "--top", type=number_of)
     parser.add_argument("-s", "--since", type=time_of, default=0)
-    for name in ("perfetto", "findings", "converter"):
+    for name in ("from", "to"):
+        parser.add_argument(f"--{name}", type=time_of)
+    for name in ("perfetto", "trace", "findings", "converter", "judge"):
         parser.add_argument(f"--{name}")
     given = parser.parse_args(words)
     if bool(given.recording) == bool(given.facts):
@@ -88,7 +98,18 @@ def arguments(words):
                     " more")
     if given.all and given.top:
         raise Fault("--all and --top don't go together")
+    since, until = window_of(given)
+    if not given.trace and (since, until) != ALWAYS:
+        raise Fault("--from and --to are those of a --trace")
+    if since > until:
+        raise Fault("--from is after --to")
     return given
+
+
+def window_of(given):
+    """Returns from when to when the trace is."""
+    return tuple(always if one is None else one
+                 for one, always in zip((getattr(given, "from"), given.to), ALWAYS))
 
 
 def read(given):
@@ -117,6 +138,9 @@ def report(given):
             from perfetto import write_perfetto
             write_perfetto(given.perfetto, recording)
         text = text_of(given, findings)
+    if given.trace:
+        from judged_trace import write_trace
+        write_trace(given.trace, recording, *window_of(given), given.judge)
     sys.stdout.write(text)
     sys.stdout.flush()
     return findings.status
