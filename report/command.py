@@ -35,11 +35,10 @@ that is.
   -m, --mutex NAME     show only what is of a mutex, or of a semaphore and the like
   -s, --since TIME     show only what lasted at TIME or later, as 1.5s, 200ms or 10us
       --perfetto FILE  write tracks over time too, as Trace Event JSON for ui.perfetto.dev
-      --trace FILE     write a trace too, which pim reads, if pim accepts it and says of each fact
-                       what the facts say
-      --from TIME      let the trace begin at TIME, with the state of that time
-      --to TIME        let the trace end at TIME. A trace has up to 256 threads and mutexes each,
-                       and 65,536 steps
+      --trace FILE     write a trace for pim too, if pim has the owners, waits and priorities of the
+                       facts after each of them
+      --from TIME      begin the trace at TIME, with the state of that time
+      --to TIME        end the trace at TIME: it has up to 256 threads, 256 mutexes, 65,536 steps
       --findings COMMAND   what makes rows of facts. Without it, pim-findings is looked for next to
                        pim-report, and on PATH
       --converter COMMAND  what makes facts of a recording; without it, pim-facts

@@ -125,8 +125,7 @@ class Tracks:
         self.cpus, self.tracks = len(self.group) + 1, 0
         self.flows = defaultdict(list)  # by the line of a grant the waits for that owner
         for wait in self.rows.waits:
-            if wait.taken and wait.lasted:
-                self.flows[wait.taken].append(wait)
+            self.flows[wait.taken].append(wait)
         self.waits, self.blocked = defaultdict(list), defaultdict(list)
         for into, rows in ((self.waits, self.rows.waits), (self.blocked, self.rows.blocked)):
             for row in rows:

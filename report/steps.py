@@ -35,15 +35,13 @@ class Steps(ModelWorld):
         so do those after it, so that the order stays."""
         mutex, level = int(words[3]), int(words[4])
         if self.ceiling.get(mutex, level) != level:
-            actor, left = self.owner.get(mutex, next(iter(self.tasks))), []
-            if mutex not in self.owner:
-                actor = self.idle(actor)
-            elif actor in self.awaits:
-                queue = list(self.waiting[self.awaits[actor]])
-                left = queue[queue.index(actor):]
+            owner, left = self.owner.get(mutex), []
+            if owner in self.awaits:
+                queue = list(self.waiting[self.awaits[owner]])
+                left = queue[queue.index(owner):]
             self.leave(left)
-            priority = self.priority_of[level]
-            self.step(actor, f"ceil {self.numbers[mutex]} {priority}", "set")
+            request = f"ceil {self.numbers[mutex]} {self.priority_of[level]}"
+            self.step(owner or self.idle(thread), request, "set")
             self.rejoin(left)
         super().set_ceiling(number, thread, words)
 
@@ -102,8 +100,9 @@ class Steps(ModelWorld):
         self.step(self.idle(thread), words, "set")
 
     def idle(self, thread):
-        """Returns the thread, or if it waits one that doesn't. There is one, without a cycle."""
-        return next(one for one in (thread, *self.tasks) if one not in self.awaits)
+        """Returns the thread, or one that has a number and doesn't wait. No cycle: there is one."""
+        return next(one for one in (thread, *self.tasks)
+                    if one in self.tasks and one not in self.awaits)
 
     def leave(self, threads):
         for thread in threads:

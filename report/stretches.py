@@ -61,7 +61,7 @@ class Stretches(FactsWorld):
     def changed(self, *threads, moved=()):
         for one in super().changed(*threads, moved=moved):
             self.look_at_level(one)
-            if one in self.awaits or one in self.begun:
+            if one in self.awaits:
                 self.look_at_wait(one)
 
     def look_at_level(self, thread):

@@ -67,41 +67,22 @@ class Window:
 
     def need_waits(self, clock):
         """The waits that last as the window begins."""
-        for thread in (*self.begin.awaits, *self.begin.out):
-            self.need([thread])
-            self.refuse_too_many(clock)
+        for waits in (self.begin.awaits, self.begin.out):
+            for thread, mutex in waits.items():
+                self.need(thread, mutex, clock)
 
     def need_of(self, words, clock):
         """What a line names, if it is one of a thread that owns or awaits the mutex."""
         if words[2:3] and words[2] in (b"granted", b"took", b"waits", b"gave-up", b"released"):
-            self.need([int(words[1]), *self.threads_at(int(words[3]))])
-            self.refuse_too_many(clock)
+            self.need(int(words[1]), int(words[3]), clock)
 
-    def need(self, threads):
-        """These threads, and as the window begins all that they own, await, or wait for them."""
-        while threads:
-            thread = threads.pop()
-            if thread not in self.threads:
-                self.threads.add(thread)
-                for mutex in self.mutexes_of(thread):
-                    threads += self.threads_at(mutex)
-
-    def mutexes_of(self, thread):
-        """Returns the mutexes on which it depends what a thread gets, or when it may run."""
-        begin = self.begin
-        found = [mutex for mutex in begin.owned.get(thread, ())
-                 if mutex in begin.waiting or mutex in begin.protects]
-        return found + [waits[thread] for waits in (begin.awaits, begin.out) if thread in waits]
-
-    def threads_at(self, mutex):
-        """Returns those that own or await a mutex, which is needed from now on."""
-        if mutex in self.needed:
-            return []
+    def need(self, thread, mutex, clock):
+        """A thread and a mutex, its owner as the window begins, and the PROTECT ones of both."""
         self.needed.add(mutex)
-        begin = self.begin
-        found = [thread for thread, one in begin.out.items() if one == mutex]
-        owner = [begin.owner[mutex]] if mutex in begin.owner else []
-        return [*found, *begin.waiting.get(mutex, ()), *owner]
+        for one in {thread, self.begin.owner.get(mutex, thread)} - self.threads:
+            self.threads.add(one)
+            self.needed |= self.begin.protects.intersection(self.begin.owned.get(one, ()))
+        self.refuse_too_many(clock)
 
     def refuse_too_many(self, clock):
         for kind, found, most in (("threads", self.threads, MOST_TASKS),

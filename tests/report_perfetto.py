@@ -37,16 +37,20 @@ EXAMPLES = (
      "high: waits: inverted: held up by low 1-2 mutex=m;"
      "high: waits: inverted: held up by low 3-4 mutex=m;high: owns: owns m 5-6;"
      "low: owns: owns m 0-4;flow 1 high waits > low owns"),
-    ("ceilings", "thread 1 30 a;mutex 5 protect 50 m;mutex 4 protect 40 n;0 1 took 5;1000 1 took 4;"
-     "2000 1 ceiling 4 50;3000 1 released 4;4000 1 ceiling 5 20;5000 1 priority 10;6000 end",
-     "a = 0 50 4 30 5 20;a: boosted: a at 50: the ceiling of m 0-2 base=30;"
-     "a: boosted: a at 50: the ceiling of n 2-3 base=30;"
-     "a: boosted: a at 50: the ceiling of m 3-4 base=30;"
+    ("ceilings", "thread 1 30 a;mutex 5 protect 50 m;mutex 4 protect 40 n;0 1 took 5;"
+     "500 1 priority 35;1000 1 took 4;2000 1 ceiling 4 50;3000 1 released 4;4000 1 ceiling 5 20;"
+     "5000 1 priority 10;6000 end",
+     "a = 0 50 4 35 5 20;a: boosted: a at 50: the ceiling of m 0-0.5 base=30;"
+     "a: boosted: a at 50: the ceiling of m 0.5-2 base=35;"
+     "a: boosted: a at 50: the ceiling of n 2-3 base=35;"
+     "a: boosted: a at 50: the ceiling of m 3-4 base=35;"
      "a: boosted: a at 20: the ceiling of m 5-6 base=10;a: owns: owns m 0-6;a: owns: owns n 1-3"),
     ("whose wait boosts", "thread 1 10 a;thread 2 30 b;thread 3 30 c;thread 4 40 d;"
-     "mutex 8 inherit m;mutex 7 inherit n;0 1 granted 8;0 1 granted 7;1000 3 waits 8;"
-     "2000 2 waits 8;3000 4 waits 7;4000 4 gave-up 7;5000 3 gave-up 8;6000 end",
-     "a = 0 10 1 30 3 40 4 30;b = 0 30;c = 0 30;d = 0 40;"
+     "thread 5 15 e;mutex 8 inherit m;mutex 7 inherit n;0 1 granted 8;0 1 granted 7;500 5 waits 7;"
+     "1000 3 waits 8;2000 2 waits 8;3000 4 waits 7;4000 4 gave-up 7;5000 3 gave-up 8;6000 end",
+     "a = 0 10 0.5 15 1 30 3 40 4 30;b = 0 30;c = 0 30;d = 0 40;e = 0 15;"
+     "a: boosted: a at 15: e waits for n 0.5-1 base=10;e: waits: waits for n 0.5-6 owner=a (10);"
+     "flow 0.5 e waits > a owns;"
      "a: boosted: a at 30: c waits for m 1-3 base=10;"
      "a: boosted: a at 40: d waits for n 3-4 base=10;"
      "a: boosted: a at 30: c waits for m 4-5 base=10;"
@@ -54,6 +58,13 @@ EXAMPLES = (
      "a: owns: owns m 0-6;a: owns: owns n 0-6;b: waits: waits for m 2-6 owner=a (10);"
      "c: waits: waits for m 1-5 owner=a (10);d: waits: waits for n 3-4 owner=a (10);"
      "flow 1 c waits > a owns;flow 2 b waits > a owns;flow 3 d waits > a owns"),
+    ("a chain", THREADS + ";mutex 5 inherit m;mutex 6 none n;0 2 granted 5;0 3 granted 6;"
+     "1000 2 waits 6;2000 1 waits 5;3000 end", "high = 0 30;low = 0 10 2 30;mid = 0 20;"
+     "high: waits: waits for m 2-3 owner=low (10);"
+     "high: waits: inverted: held up by mid 2-3 mutex=n;"
+     "low: boosted: low at 30: high waits for m 2-3 base=10;low: owns: owns m 0-3;"
+     "low: waits: waits for n 1-3 owner=mid (20);low: waits: inverted: held up by mid 2-3 mutex=n;"
+     "mid: owns: owns n 0-3;flow 1 low waits > mid owns;flow 2 high waits > low owns"),
     ("objects", THREADS + ";object 1 semaphore q;object 2 condition -;0 1 blocks 1 h.c:1;"
      "1000 1 resumes 1 by 2 l.c:9;2000 1 blocks 2;3000 1 resumes 2 timed-out;4000 1 blocks 1;"
      "5000 1 resumes 1 failed;5500 1 blocks 1;6000 1 resumes 1;7000 1 blocks 1;8000 end",

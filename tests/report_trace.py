@@ -75,6 +75,11 @@ EXAMPLES = (
      "1 1 waits 5;2 1 ceiling 6 25;3 2 granted 6", ALWAYS,
      "task 1 30;task 2 10;mutex 1 none;mutex 2 protect 40;2 lock 1 = granted;1 lock 1 = queued;"
      "2 ceil 2 25 = set;2 lock 2 = granted"),
+    # Thread 3 has no number.
+    ("a ceiling by a thread that has no part", THREADS + "mutex 6 protect 40 b;0 3 ceiling 6 25;"
+     "1 2 granted 6;2 2 released 6;3 3 ceiling 6 26", ALWAYS,
+     "task 1 10;mutex 1 protect 40;1 ceil 1 25 = set;1 lock 1 = granted;1 unlock 1 = freed;"
+     "1 ceil 1 26 = set"),
     ("levels 0 and 1", "thread 1 0 a;thread 2 1 b;mutex 5 protect 98 m;0 1 granted 5;"
      "mutex 6 none n;1 2 granted 6", ALWAYS, "task 1 1;task 2 2;mutex 1 protect 99;mutex 2 none;"
      "1 lock 1 = granted;2 lock 2 = granted"),
@@ -315,7 +320,7 @@ class Agreement:
         return f"the level of {wrong[0]}" if wrong else None
 
 
-def agree(pim, count=150):
+def agree(pim, count=100):
     """Traces of random facts are accepted, and their reports are those of the facts."""
     wrong, words = [], set()
     for seed in range(count):
