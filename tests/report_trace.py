@@ -94,6 +94,10 @@ EXAMPLES = (
     ("a window within a wait", THREADS + "mutex 5 inherit m;0 2 granted 5;1 1 waits 5;"
      "20 2 runs 10;30 2 released 5", (15, 25),
      "task 1 30;task 2 10;mutex 1 inherit;2 lock 1 = granted;1 lock 1 = queued"),
+    ("a window of waiters of one level", "thread 8 20 a;thread 2 10 b;thread 3 20 c;mutex 5 none m;"
+     "0 2 granted 5;10 3 waits 5;11 8 waits 5;20 2 released 5;20 3 granted 5", (15, 30),
+     "task 1 20;task 2 10;task 3 20;mutex 1 none;2 lock 1 = granted;3 lock 1 = queued;"
+     "1 lock 1 = queued;2 unlock 1 = handed 3"),
     ("a window after a release", THREADS + "mutex 5 inherit m;0 2 granted 5;1 1 waits 5;"
      "2 3 waits 5;9 2 released 5;11 1 granted 5;12 1 released 5;12 3 granted 5", (10, 11),
      "task 1 30;task 2 20;mutex 1 inherit;1 lock 1 = granted;2 lock 1 = queued"),
