@@ -40,6 +40,17 @@ def large(periods=PERIODS):
     return ("\n".join(facts) + "\n").encode(), "\n".join(rows) + "\n"
 
 
+def crowd(rounds):
+    """Returns facts of 63 threads that wait for one mutex, and get it in turn."""
+    facts = ["facts 1", *(f"thread {t} {t} t{t}" for t in range(1, 64)), "mutex 1 inherit m"]
+    for _ in range(rounds):
+        facts += ["0 1 granted 1", *(f"0 {t} waits 1" for t in range(2, 64))]
+        for t in range(1, 63):
+            facts += [f"0 {t} released 1", f"0 {t + 1} granted 1"]
+        facts.append("0 63 released 1")
+    return ("\n".join(facts) + "\n").encode()
+
+
 def write_pages(folder, suite, found_in):
     """Writes the pages of the suite, of a text of no threads, and of a large one."""
     for file in [*sorted(suite.glob("*.facts")), None]:
