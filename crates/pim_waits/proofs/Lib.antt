@@ -8,6 +8,7 @@ pub mod Nearest
 pub mod Owning
 pub mod Places
 pub mod Raising
+pub mod Runners
 pub mod Settling
 pub mod Shorter
 pub mod Untouching

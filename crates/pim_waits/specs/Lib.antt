@@ -3,6 +3,7 @@ pub mod Around
 pub mod Awaited
 pub mod Flow
 pub mod Groups
+pub mod Laws
 pub mod Marked
 pub mod Members
 pub mod Model

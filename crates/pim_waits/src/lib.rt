@@ -9,6 +9,7 @@ mod component;
 mod facts;
 mod gather;
 mod groups;
+mod laws;
 mod own;
 mod place;
 mod seeds;
@@ -16,5 +17,6 @@ mod settle;
 mod waits;
 mod way;
 
+pub use laws::runner_law;
 pub use place::{MutexPlace, ThreadPlace, nth, put};
 pub use waits::Waits;
