@@ -1,3 +1,4 @@
+pub mod Blaming
 pub mod Changing
 pub mod Flowing
 pub mod Gathering

@@ -1,8 +1,22 @@
 //! Laws over the definitions: each is the contract of a function that does nothing, so that it is proved.
 
-ghost use Rattle.pim_waits.specs.Laws.{RunnerLaw};
+ghost use Rattle.pim_waits.specs.Laws.{RunnerLaw, BlameLaw, BlameExistsLaw, PassingLaw};
 
 /// The thread that has to run is another one than the waiting thread, and awaits no mutex that is owned.
 pub fn runner_law()
     ensures { RunnerLaw }
+{}
+
+/// The blamed mutex is NONE, or PROTECT with a ceiling below what the waiting thread gets.
+///
+/// Its owner gets less than the thread that awaits it. There is such a mutex whenever the runner gets less than the waiting
+/// thread.
+pub fn blame_law()
+    ensures blamed { BlameLaw }
+    ensures exists { BlameExistsLaw }
+{}
+
+/// While each mutex on the way of a thread passes on what the thread gets, the thread isn't inverted.
+pub fn passing_law()
+    ensures { PassingLaw }
 {}
