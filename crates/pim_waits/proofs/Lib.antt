@@ -3,6 +3,7 @@ pub mod Changing
 pub mod Flowing
 pub mod Gathering
 pub mod Grouping
+pub mod Idle
 pub mod Lists
 pub mod Marks
 pub mod Nearest

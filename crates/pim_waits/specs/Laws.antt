@@ -71,3 +71,24 @@ WayPassesOn S t =
 -- Then the runner gets no less than t gets.
 abbrev pub PassingLaw : Type 0
 PassingLaw = (S : State) (t u : ℕ) → IsWhole S → WayPassesOn S t → runner S t ≡ Some u → gets S t ≤ gets S u
+
+-- ---- an owner that waits for nothing
+
+-- u owns the NONE mutex m and no other one, and awaits nothing
+pub record IsIdleOwner (S : State) (m u : ℕ) : Type 0 where
+  pub none : protocol_of S m ≡ Protocol.None
+  pub owner : owner_of S m ≡ Some u
+  pub only : (k : ℕ) → owner_of S k ≡ Some u → k ≡ m
+  pub idle : wait_of S u ≡ None
+
+-- what is known of a thread t that awaits m
+pub record WaitsForIdle (S : State) (t u : ℕ) : Type 0 where
+  pub runs : runner S t ≡ Some u
+  pub level : gets S u ≡ base_of S u
+  pub inverted : HasLowRunner S t ↔ (base_of S u < gets S t)
+
+-- Such an owner gets its level. It is the runner of each thread that awaits m, which is inverted if and only if that level
+-- is below what the thread gets.
+abbrev pub IdleOwnerLaw : Type 0
+IdleOwnerLaw =
+    (S : State) (t m u : ℕ) → IsWhole S → IsIdleOwner S m u → awaited_of S t ≡ Some m → WaitsForIdle S t u

@@ -17,6 +17,6 @@ mod settle;
 mod waits;
 mod way;
 
-pub use laws::{blame_law, passing_law, runner_law};
+pub use laws::{blame_law, idle_owner_law, passing_law, runner_law};
 pub use place::{MutexPlace, ThreadPlace, nth, put};
 pub use waits::Waits;
