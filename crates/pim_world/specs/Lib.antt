@@ -4,4 +4,5 @@ pub mod Following
 pub mod After
 pub mod Held
 pub mod Texts
+pub mod Steady
 pub mod Laws

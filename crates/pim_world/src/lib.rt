@@ -23,7 +23,7 @@ mod world;
 
 pub use fault::{FactsFault, Why};
 pub use kernel::{KernelEvents, Off};
-pub use laws::first_invalid_line_law;
+pub use laws::{first_invalid_line_law, steady_law};
 pub use refusal::Refusal;
 pub use text::check_text;
 pub use world::World;
