@@ -27,3 +27,4 @@ pub mod Appended
 pub mod StillKept
 pub mod NoWaits
 pub mod Stepping
+pub mod Inversions

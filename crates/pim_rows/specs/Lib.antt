@@ -20,3 +20,4 @@ pub mod Laws
 pub mod AllOpen
 pub mod Before
 pub mod Ending
+pub mod Inversions

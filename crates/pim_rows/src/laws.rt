@@ -1,6 +1,7 @@
 //! Laws over the definitions: each is the contract of a function that does nothing, so that it is proved.
 
 ghost use Rattle.pim_rows.specs.Laws.{SumsLaw, OrderLaw, BoundsLaw};
+ghost use Rattle.pim_rows.specs.Inversions.{InversionLaw};
 
 /// The times of a wait are sums of the stretches in which what they count held.
 ///
@@ -19,4 +20,9 @@ pub fn order_law()
 /// Another thread runs in place of the runner for no longer than the wait is inverted.
 pub fn bounds_law()
     ensures { BoundsLaw }
+{}
+
+/// After each line: which waits aren't inverted, which mutex is blamed, and which threads are a runner and a meanwhile.
+pub fn inversion_law()
+    ensures { InversionLaw }
 {}
