@@ -28,3 +28,4 @@ pub mod StillKept
 pub mod NoWaits
 pub mod Stepping
 pub mod Inversions
+pub mod SectionTimes

@@ -21,3 +21,4 @@ pub mod AllOpen
 pub mod Before
 pub mod Ending
 pub mod Inversions
+pub mod SectionTimes

@@ -2,6 +2,7 @@
 
 ghost use Rattle.pim_rows.specs.Laws.{SumsLaw, OrderLaw, BoundsLaw};
 ghost use Rattle.pim_rows.specs.Inversions.{InversionLaw};
+ghost use Rattle.pim_rows.specs.SectionTimes.{UsedLaw, WithoutOffLaw};
 
 /// The times of a wait are sums of the stretches in which what they count held.
 ///
@@ -25,4 +26,10 @@ pub fn bounds_law()
 /// After each line: which waits aren't inverted, which mutex is blamed, and which threads are a runner and a meanwhile.
 pub fn inversion_law()
     ensures { InversionLaw }
+{}
+
+/// No section used more time than the longest one took. Without an `off` these are equal.
+pub fn section_times_law()
+    ensures used { UsedLaw }
+    ensures without_off { WithoutOffLaw }
 {}
