@@ -29,3 +29,4 @@ pub mod NoWaits
 pub mod Stepping
 pub mod Inversions
 pub mod SectionTimes
+pub mod DeadlockRows

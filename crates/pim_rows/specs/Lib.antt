@@ -22,3 +22,4 @@ pub mod Before
 pub mod Ending
 pub mod Inversions
 pub mod SectionTimes
+pub mod DeadlockRows

@@ -2,6 +2,7 @@
 
 ghost use Rattle.pim_rows.specs.Laws.{SumsLaw, OrderLaw, BoundsLaw};
 ghost use Rattle.pim_rows.specs.Inversions.{InversionLaw};
+ghost use Rattle.pim_rows.specs.DeadlockRows.{DeadlockLaw};
 ghost use Rattle.pim_rows.specs.SectionTimes.{UsedLaw, WithoutOffLaw};
 
 /// The times of a wait are sums of the stretches in which what they count held.
@@ -32,4 +33,10 @@ pub fn inversion_law()
 pub fn section_times_law()
     ensures used { UsedLaw }
     ensures without_off { WithoutOffLaw }
+{}
+
+/// Each row of a deadlock is a cycle of waits, from the thread with the lowest number on. Each thread on a cycle is in
+/// exactly one of them.
+pub fn deadlock_law()
+    ensures { DeadlockLaw }
 {}
