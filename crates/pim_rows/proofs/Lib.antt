@@ -30,3 +30,4 @@ pub mod Stepping
 pub mod Inversions
 pub mod SectionTimes
 pub mod DeadlockRows
+pub mod SectionOwners

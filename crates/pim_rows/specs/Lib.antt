@@ -23,3 +23,4 @@ pub mod Ending
 pub mod Inversions
 pub mod SectionTimes
 pub mod DeadlockRows
+pub mod SectionOwners

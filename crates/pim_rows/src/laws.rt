@@ -3,6 +3,7 @@
 ghost use Rattle.pim_rows.specs.Laws.{SumsLaw, OrderLaw, BoundsLaw};
 ghost use Rattle.pim_rows.specs.Inversions.{InversionLaw};
 ghost use Rattle.pim_rows.specs.DeadlockRows.{DeadlockLaw};
+ghost use Rattle.pim_rows.specs.SectionOwners.{SectionOwnerLaw};
 ghost use Rattle.pim_rows.specs.SectionTimes.{UsedLaw, WithoutOffLaw};
 
 /// The times of a wait are sums of the stretches in which what they count held.
@@ -39,4 +40,9 @@ pub fn section_times_law()
 /// exactly one of them.
 pub fn deadlock_law()
     ensures { DeadlockLaw }
+{}
+
+/// A section is of the thread that owns the mutex after each line of it.
+pub fn section_owner_law()
+    ensures { SectionOwnerLaw }
 {}

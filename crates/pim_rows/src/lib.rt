@@ -48,7 +48,8 @@ mod wait_starts;
 pub use deadlocks::{by_number, put_deadlocks};
 pub use findings::{Findings, findings_of};
 pub use laws::{
-    bounds_law, deadlock_law, inversion_law, order_law, section_times_law, sums_law,
+    bounds_law, deadlock_law, inversion_law, order_law, section_owner_law, section_times_law,
+    sums_law,
 };
 pub use nest_table::{NestTable, Nests, put_nests};
 pub use open_wait::OpenWait;
