@@ -9,7 +9,8 @@ import sys
 from choice import Unknown
 from facts_text import Facts
 from findings import Findings
-from other_programs import Fault, Progress, facts_of, rows_of
+from other_programs import Progress, facts_of, rows_of
+from program import Fault, Parser, version
 from recording import Recording
 from rows_text import Rows
 from terminal import MOST, Terminal
@@ -57,12 +58,6 @@ thread for more than 50 us at another level than its mutexes give; 0 if not; 2 a
     $ pim-report run --trace run.pim --from 1.2s --to 1.25s
 """
 ALWAYS = 0, 10**19
-ROOTS = pathlib.Path(__file__).resolve().parent, pathlib.Path(__file__).resolve().parent.parent
-
-
-class Parser(argparse.ArgumentParser):
-    def error(self, message):
-        raise Fault(f"{message}; pim-report --help says more")
 
 
 def time_of(text):
@@ -162,12 +157,6 @@ def write_page(given, findings):
         pathlib.Path(given.html).write_text(page, encoding="utf-8")
     except OSError as fault:
         raise Fault(f"{given.html}: {fault.strerror}") from fault
-
-
-def version():
-    """Returns the version, which is in a file next to pim-report or above it."""
-    found = [root / "VERSION" for root in ROOTS if (root / "VERSION").is_file()]
-    return found[0].read_text().strip() if found else "unknown"
 
 
 def answer(words):

@@ -4,7 +4,8 @@ import sys
 import textwrap
 
 from model_world import ModelWorld, hand_overs
-from other_programs import Fault, Progress, command_of, run
+from other_programs import Progress, command_of, run
+from program import Fault
 from reported import Rejected, Reported
 from steps import Steps
 from trace_window import MOST_STEPS, TooLarge, Window
@@ -87,9 +88,9 @@ def write_trace(file, recording, since, until, judge):
     with Progress("making the trace"):
         trace = trace_of(recording.facts, recording.all_rows, since, until)
         text = trace.text()
-    status, report, err = run(command, "judging the trace", text.encode())
+    status, report, has_said = run(command, "judging the trace", text.encode())
     if status not in (0, 1):
-        raise Fault(f"{command[0]} judged nothing, with status {status}: {err.decode().strip()}")
+        raise Fault("" if has_said else f"{command[0]} judged nothing, with status {status}")
     why = trace.fault(report)
     if why:
         raise Fault(f"no trace is written: {why}")

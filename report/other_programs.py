@@ -1,4 +1,4 @@
-"""The programs that pim-report runs: what makes facts of a recording, and rows of facts."""
+"""The programs that pim-report and pim-picture run: pim-facts, pim-findings and pim."""
 import os
 import pathlib
 import shlex
@@ -7,14 +7,12 @@ import subprocess
 import sys
 import threading
 
+from program import NAME, Fault, say
+
 HERE = pathlib.Path(__file__).resolve().parent
-# Where they are next to pim-report: in one folder, or in this repository.
+# Where they are next to this folder's programs: in one folder, or in this repository.
 FOLDERS = HERE, HERE.parent, HERE.parent / "record", HERE.parent / "record/out"
 PATIENCE, PERIOD = 2, 1  # seconds before anything is said, and between two lines
-
-
-class Fault(Exception):
-    """Why there is no report, in a line."""
 
 
 class Progress:
@@ -27,7 +25,7 @@ class Progress:
     def run(self):
         wait = PATIENCE
         while not self.is_over.wait(wait):
-            sys.stderr.write(f"\rpim-report: {self.what}, {self.seconds} s")
+            sys.stderr.write(f"\r{NAME}: {self.what}, {self.seconds} s")
             sys.stderr.flush()
             self.seconds, wait = self.seconds + PERIOD, PERIOD
 
@@ -40,9 +38,17 @@ class Progress:
         self.is_over.set()
         if self.thread.ident:
             self.thread.join()
+        self.clear()
+
+    def clear(self):
         if self.seconds > PATIENCE:
             sys.stderr.write("\r\033[K")
             sys.stderr.flush()
+
+    def pass_on(self, line):
+        """Writes what another program says, in place of what is shown. It speaks for pim."""
+        self.clear()
+        say(f"{NAME}{line[3:]}" if line.startswith("pim: ") else line)
 
 
 def command_of(name, given, option):
@@ -54,38 +60,55 @@ def command_of(name, given, option):
             return [str(folder / name)]
     found = shutil.which(name)
     if not found:
-        raise Fault(f"{name} isn't next to pim-report, nor on PATH: {option} names it")
+        raise Fault(f"{name} isn't next to {NAME}, nor on PATH: {option} names it")
     return [found]
 
 
-def run(command, what, data=None):
-    """Returns the status and both outputs of a command."""
+def started(command, data, errors):
     try:
-        with Progress(what):
-            done = subprocess.run(command, input=data, stdout=subprocess.PIPE,
-                                  stderr=subprocess.PIPE, check=False)
+        return subprocess.Popen(command, stdin=None if data is None else subprocess.PIPE,
+                                stdout=subprocess.PIPE, stderr=errors)
     except OSError as fault:
         raise Fault(f"{command[0]}: {fault.strerror}") from fault
-    return done.returncode, done.stdout, done.stderr
+
+
+def run(command, what, data=None):
+    """Returns the status and the output of a command, and whether it said why that is so.
+
+    What it writes to standard error is passed on as it comes: it may have to be built first.
+    """
+    reads, writes = os.pipe()
+    with open(reads, errors="replace", newline="") as errors, Progress(what) as progress:
+        with open(writes, "wb") as end:
+            child = started(command, data, end)
+        said = []
+        thread = threading.Thread(target=lambda: said.extend(map(progress.pass_on, errors)),
+                                  daemon=True)
+        thread.start()
+        try:
+            out, _ = child.communicate(data)
+        except BaseException:
+            child.kill()  # the thread listens until it has ended
+            raise
+        thread.join()
+    return child.returncode, out, bool(said)
 
 
 def facts_of(recording, given):
     """Returns the facts of a recording, which pim-facts makes."""
     command = [*command_of("pim-facts", given, "--converter"), recording]
-    status, out, err = run(command, "reading the recording")
-    sys.stderr.buffer.write(err)
+    status, out, has_said = run(command, "reading the recording")
     if status:
-        raise Fault(f"{command[0]} made no facts of {recording}" if not err else "")
+        raise Fault("" if has_said else f"{command[0]} made no facts of {recording}")
     return out
 
 
 def rows_of(facts, given):
     """Returns the rows of a text of facts. A fault of pim-findings is passed on."""
     command = command_of("pim-findings", given, "--findings")
-    status, out, err = run(command, "looking for what follows", facts)
-    sys.stderr.buffer.write(err)
+    status, out, has_said = run(command, "looking for what follows", facts)
     if status not in (0, 1):
-        raise Fault(f"{command[0]} found nothing, with status {status}" if not err else "")
+        raise Fault("" if has_said else f"{command[0]} found nothing, with status {status}")
     if not out.endswith(b"\n") or b"end " not in out[-200:]:
         raise Fault(f"{command[0]} wrote no rows")
     return out.decode("ascii", "replace")

@@ -8,7 +8,7 @@ import json
 import pathlib
 from collections import defaultdict
 
-from other_programs import Fault
+from program import Fault
 from pack import parts_of, rows_of
 from rows_text import FAILED, GIVEN, TIMED_OUT
 from stretches import Stretches
