@@ -8,8 +8,8 @@ import json
 import pathlib
 from collections import defaultdict
 
-from program import Fault
 from pack import parts_of, rows_of
+from program import Fault
 from rows_text import FAILED, GIVEN, TIMED_OUT
 from stretches import Stretches
 from words import place_and_function

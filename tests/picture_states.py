@@ -104,6 +104,9 @@ def states(text, report):
         make(state, words, reply, number)
         for _, task, _, prio, *_ in changes:
             state.prio[int(task)] = int(prio)
+        for _, task, _, _, *reason in changes:
+            if state.reason(int(task)) != " ".join(reason):
+                raise ValueError(f"step {number}: task {task} has another reason than {reason}")
         yield words, reply, state
 
 

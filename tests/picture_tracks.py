@@ -1,10 +1,8 @@
 """What a Trace Event file of pim-picture says of each task, and the rules of the format."""
 import collections
-import decimal
 import json
 
 STEP = 1000  # microseconds
-CPUS = 1000  # the group of the CPUs, which is above those of the tasks
 NAMES = {"process_name": "name", "thread_name": "name"}
 NAMES |= {"process_sort_index": "sort_index", "thread_sort_index": "sort_index"}
 FIELDS = {
@@ -24,7 +22,7 @@ def event_fault(it):
     numbers = [it[key] for key in ("pid", "tid", "id") if key in it]
     times = [it[key] for key in ("ts", "dur") if key in it]
     are_numbers = all(type(number) is int for number in numbers)
-    if not are_numbers or not all(type(time) in (int, decimal.Decimal) for time in times):
+    if not are_numbers or not all(type(time) is int for time in times):
         return "a number"
     if min(numbers + times) < 0:
         return "a number below 0"
@@ -49,15 +47,6 @@ def nesting_fault(slices):
     return None
 
 
-def overlap_fault(slices):
-    """Returns two slices of a CPU of which one begins before the other has ended, or None."""
-    in_order = sorted(slices, key=lambda it: it["ts"])
-    for it, after in zip(in_order, in_order[1:]):
-        if after["ts"] < it["ts"] + it["dur"]:
-            return f"{after['name']} at {after['ts']}"
-    return None
-
-
 def flow_fault(flows, tracks):
     """Returns a flow that doesn't lead from a slice to a slice, or None."""
     for (cat, number), ends in flows.items():
@@ -77,7 +66,7 @@ class Tracks:
     """The events of a file, by their kind and track."""
 
     def __init__(self, drawn):
-        file = json.loads(drawn, parse_float=decimal.Decimal)
+        file = json.loads(drawn)
         self.events = file["traceEvents"]
         self.unit = file["displayTimeUnit"]
         self.slices, self.flows = collections.defaultdict(list), collections.defaultdict(list)
@@ -98,8 +87,6 @@ class Tracks:
         if faults:
             return faults[0]
         faults = [fault for fault in map(nesting_fault, self.slices.values()) if fault]
-        cpus = [slices for (pid, _), slices in self.slices.items() if pid == CPUS]
-        faults += [fault for fault in map(overlap_fault, cpus) if fault]
         faults += [fault for fault in [flow_fault(self.flows, self.slices)] if fault]
         numbers = collections.Counter(tid for _, tid in self.slices)
         faults += [f"track {tid} twice" for tid, count in numbers.items() if count > 1]
@@ -116,8 +103,7 @@ class Tracks:
             if name in order:
                 order[name].append((pid, arguments["sort_index"], tid))
         groups = [(pid, place) for pid, place, _ in order["process_sort_index"]]
-        wanted = {CPUS: 0}
-        faults = [f"group {pid} at {at}" for pid, at in groups if at != wanted.get(pid, pid)]
+        faults = [f"group {pid} at {at}" for pid, at in groups if at != pid]
         tracks = sorted(order["thread_sort_index"])
         if tracks != sorted(tracks, key=lambda it: (it[0], it[2])) or len({it[:2] for it in tracks}) < len(tracks):
             faults.append(f"tracks {tracks}")
@@ -130,24 +116,12 @@ class Tracks:
         faults = []
         for (pid, tid), slices in self.slices.items():
             for it in slices:
-                if pid == CPUS:
-                    faults += self.wrong_thread(it)
-                    continue
                 prios = [value for ts, value in self.counters[pid] if ts <= it["ts"]]
                 owner = pid if it["name"].startswith("owns ") else awaited.get((pid, tid, it["ts"]))
                 is_boost = "base" in it["args"]
                 wrong = not it["args"]["base"] < prios[-1] if is_boost else it["args"]["owner"] != owner
                 faults += [f"{it['name']} with {it['args']}"] if wrong else []
         return faults
-
-    def wrong_thread(self, it):
-        """Returns the slice of a CPU if it has a task that isn't one of the file, or its level none."""
-        arguments = dict(it["args"])
-        task, level = arguments.pop("task", None), arguments.pop("level")
-        before = arguments.pop("level before", None)
-        is_known = task is None or ("process_name", task) in {key[:2] for key in self.called}
-        is_right = is_known and not arguments and {level, before} <= {None, *range(101)} and None != level != before
-        return [] if is_right else [f"{it['name']} with {it['args']}"]
 
     def at(self, task, step):
         """Returns the names of the slices of a task after a step."""
@@ -170,23 +144,3 @@ class Tracks:
         """Returns each flow as its step, the task that waits and the owner."""
         ends = [sorted(ends, key=lambda it: it["ph"] == "f") for ends in self.flows.values()]
         return sorted((a["ts"] // STEP, a["pid"], b["pid"]) for a, b in ends)
-
-    def spans(self):
-        """Returns each slice as its task, its name, and the nanoseconds at which it begins and ends."""
-        found = [(pid, it) for (pid, _), slices in self.slices.items() for it in slices]
-        return sorted((pid, it["name"], it["ts"] * 1000, (it["ts"] + it["dur"]) * 1000) for pid, it in found)
-
-    def ran(self):
-        """Returns each slice of a CPU: the CPU, the thread, when in nanoseconds, its arguments."""
-        found = []
-        for (pid, tid), slices in self.slices.items():
-            cpu = self.called["thread_name", pid, tid]["name"].removeprefix("CPU ")
-            for it in slices if pid == CPUS else ():
-                begin, end = it["ts"] * 1000, (it["ts"] + it["dur"]) * 1000
-                found.append((int(cpu), it["name"], begin, end, it["args"]))
-        return sorted(found, key=lambda it: it[:3])
-
-    def groups(self):
-        """Returns what the groups are called, by their tasks."""
-        called = {pid: named["name"] for (what, pid, _), named in self.called.items() if what == "process_name"}
-        return [called[pid] for pid in sorted(called)]
