@@ -28,8 +28,8 @@ Depends: libc6 (>= @GLIBC@), python3
 Description: judges, records and draws locks with priority inheritance and ceilings
  pim says what each lock and unlock does under the three protocols of POSIX
  mutexes, and agrees with a short model by proof. pim-picture draws it.
- pim-record and pim-import record the locks of a program, and say who waited
- for whom. pim-conform compares the running kernel.
+ pim-record records the locks of a program, and pim-report says which threads
+ less urgent ones held up, and where. pim-conform compares the running kernel.
 """,
     "libpim0": """\
 Section: libs
@@ -96,7 +96,7 @@ def fill(root, programs):
     own, documents = root / "usr/lib/kulgyozi", root / "usr/share/doc/kulgyozi"
     for path in sorted(programs.rglob("*")):
         name = path.relative_to(programs).as_posix()
-        if path.is_dir() or name in ("CHANGELOG.md", "VERSION"):
+        if path.is_dir() or path.is_symlink() or name == "CHANGELOG.md":
             continue
         if name.startswith("man/"):
             write(root / f"usr/share/{name}.gz", zipped(path.read_bytes()))

@@ -5,9 +5,11 @@ import version
 from files import ROOT, Fault, copy, filled, highest, kit, run, tracked, write
 
 # The programs of Rattle, and their crates.
-PROGRAMS = {"pim": "pim", "pim-import": "pim_importer", "pim-picture": "pim_picture"}
-# Those of other languages.
-SCRIPTS = ("record/pim-record", "record/pim-log", "conform/pim-conform")
+PROGRAMS = {"pim": "pim", "pim-findings": "pim_facts_program"}
+# Those of other languages. Links at the top lead to those of the folder report.
+SCRIPTS = ("record/pim-record", "record/pim-log", "report/pim-report", "report/pim-picture",
+           "conform/pim-conform")
+LINKS = ("pim-report", "pim-picture")
 PAGE, CRATES = ROOT / "web/dist/index.html", ROOT / "launcher/crates"
 # Commands that a C compiler makes.
 COMMANDS = ("record/out/pim-facts",)
@@ -17,6 +19,7 @@ README.md CHANGELOG.md SECURITY.md VERSION docs examples web/README.md web/inver
 record/pim-record record/pim-log record/from-lttng record/kernel_text.py record/log_facts.py record/facts_text.py
 record/places_text.py
 record/FORMAT.md record/KERNEL.md record/LAST.md record/PLACES.md record/WAITS.md
+report
 record/recorded/inversion_inherit.log
 conform/pim-conform conform/compare.py conform/fuzz.py conform/walk.py
 conform/set conform/performed
@@ -53,7 +56,10 @@ def build(to, work):
         run(ROOT / "web/build")
     copy(PAGE, to / "web/dist/index.html")
     for file in tracked(*COPIED):
-        copy(ROOT / file, to / file)
+        if not file.endswith(".in"):
+            copy(ROOT / file, to / file)
+    for name in LINKS:
+        (to / name).symlink_to(f"report/{name}")
 
 
 def is_current(page):

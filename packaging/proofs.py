@@ -8,8 +8,7 @@ from programs import glibc_of
 # What users have of a crate and of those that it stands on.
 TOPS = {
     "pim": ["pim"],
-    "pim_importer": ["pim-import"],
-    "pim_picture": ["pim-picture"],
+    "pim_facts_program": ["pim-findings"],
     "pim_c": ["libpim", "the page"],
     "pim_web": ["the page"],
 }

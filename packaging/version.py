@@ -18,8 +18,6 @@ FILE = ROOT / "VERSION"
 # and {number} 10203.
 PLACES = [
     ("crates/pim_tool/src/command_line.rt", '.version("{version}")'),
-    ("crates/pim_drawing/src/command_line.rt", '.version("{version}")'),
-    ("crates/pim_importer/src/arguments.rt", '.version("{version}")'),
     ("crates/pim_facts_program/src/command_line.rt", '.version("{version}")'),
     ("crates/pim_judge_tests/src/command_words.rt", r'"pim {version}\n"'),
     ("crates/pim_c/src/version.rt", "the version {version} as one number"),

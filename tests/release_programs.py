@@ -8,13 +8,15 @@ from checks import ROOT, check, difference
 from release_root import said
 
 sys.path.append(str(ROOT / "packaging"))
-from programs import PROGRAMS, glibc_of
+from programs import LINKS, PROGRAMS, glibc_of
 
 README = (ROOT / "README.md").read_text()
 VERSION = (ROOT / "VERSION").read_text().strip()
 # The glibc of Debian 11.
 OLDEST_GLIBC = "2.31"
-RECORDING = "inversion_inherit.log"
+FACTS = "chain_from_an_inherit_to_a_none_mutex.facts"
+# The programs that say their version: of Rattle, and in Python.
+VERSIONED = (*PROGRAMS, *LINKS)
 TOOLS = "cc gcc clang make as ld rt rattle"
 # A version before all others, for an upgrade.
 EARLIER = "0.0.1-1"
@@ -46,7 +48,7 @@ def archive(root, files):
     check("the README's commands for an archive", difference(got, wanted))
     here = root.run("cd /srv/own/kulgyozi-*/", "pwd")[1].strip()
     works(root, "the archive", f"{here}/", here)
-    got = root.run(f"ln -s {here}/pim* {here}/*/pim-[rlc]* /usr/local/bin")
+    got = root.run(f"ln -s {here}/pim* {here}/*/pim-[lc]* {here}/record/pim-record /usr/local/bin")
     check("links to the programs of the archive", said(got[1]) if got[0] else None)
     records(root, "by links to the archive")
     compares(root, "by links to the archive", f"{here}/conform")
@@ -75,19 +77,21 @@ def oldest(root, files):
 
 
 def works(root, what, prefix, here):
-    """Judges, imports and draws, and compares with what the repository's programs answer."""
-    got = root.run(f"{prefix}pim < {here}/examples/inversion_avoided.pim")
+    """Judges, reports and draws, and compares with what the repository's programs answer."""
+    example = f"{here}/examples/inversion_avoided.pim"
+    got = root.run(f"{prefix}pim < {example}")
     check(f"{what}: pim judges an example", difference(got, (0, report("inversion_avoided"))))
-    for program in PROGRAMS:
+    for program in VERSIONED:
         got, wanted = root.run(f"{prefix}{program} --version"), f"{program} {VERSION}\n"
         check(f"{what}: {program} --version", difference(got, (0, wanted)))
-    root.take(ROOT / "record/recorded" / RECORDING)
-    for command in ("pim-import {}", "pim < {}.pim", "pim-picture < {}.pim"):
-        command = command.format(RECORDING)
+    root.take(ROOT / "suite/facts" / FACTS)
+    root.take(ROOT / "examples/inversion_avoided.pim")
+    for command in (f"pim-findings {FACTS}", f"pim-report --facts {FACTS}",
+                    "pim-picture < inversion_avoided.pim"):
         wanted = own(command, root.path / "root")
         got = root.run("cd /root", f"{prefix}{command}")
         check(f"{what}: {command}", difference(got, wanted))
-    root.run(f"rm /root/{RECORDING}*")
+    root.run(f"rm /root/{FACTS} /root/inversion_avoided.pim")
 
 
 def own(command, folder):
@@ -98,14 +102,14 @@ def own(command, folder):
 
 
 def records(root, what):
-    """Records a program that was compiled here, checks the log and imports it."""
+    """Records a program that was compiled here, and checks and reports the log."""
     folder = root.path / "root"
     made = ["make", "-s", "-C", ROOT / "record", f"{folder}/programs/inversion", f"OUT={folder}"]
     subprocess.run(made, check=True)
     commands = ("cd /root", "pim-record -o run programs/inversion none", "pim-log --check run")
     got = root.run(*commands)
     check(f"{what}: a program is recorded", said(got[1]) if got[0] else None)
-    status, out = root.run("cd /root", "pim-import run")
+    status, out = root.run("cd /root", "pim-report run")
     is_found = status in (0, 1) and " waited " in out
     check(f"{what}: its inversion is found", None if is_found else said(out))
     shutil.rmtree(folder / "programs")
