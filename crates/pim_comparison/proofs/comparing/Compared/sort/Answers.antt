@@ -1,7 +1,0 @@
-use Rattle.std.proofs.Common.{rules}
-use Rattle.std.proofs.lemmas.List.Sorted.{IsNonDecreasingBy-from_sort_by_key}
-use Rattle.pim_comparison.specs.Orders.{shortfall}
-use Rattle.pim_comparison.proofs.comparing.Compared.sort.Goals as goal
-
-pub returns : goal.returns
-returns c = IsNonDecreasingBy-from_sort_by_key shortfall _ c.sort_unstable_by_key.ensures.sorted (λ a r q k. search rules)
