@@ -1,6 +1,0 @@
-pub mod Showing
-pub mod Pieces
-pub mod Views
-pub mod Frames
-pub mod Shown
-pub mod Refusing
