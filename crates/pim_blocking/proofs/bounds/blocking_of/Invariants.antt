@@ -1,9 +1,0 @@
-use Rattle.std.proofs.Common.{◌≡◌, take}
-use Rattle.std.specs.List.{filter}
-use Rattle.pim_blocking.specs.Bounds.{blocks}
-use Rattle.pim_blocking.specs.Reached.{is_in}
-use Rattle.pim_blocking.proofs.bounds.blocking_of.Given as goal
-
--- the sections so far that can block
-abbrev pub invariant-loop-section : goal.invariant-loop-section
-invariant-loop-section l = l.blocking.items ≡ filter (blocks (is_in l.at) l.thread l.level) (take l.section-index l.seen)

@@ -1,6 +1,0 @@
-mod Seeing
-mod Opposing
-mod Asking
-mod Walking
-mod Cycling
-mod Blockers

@@ -1,6 +1,0 @@
-use Rattle.std.proofs.Common.{rules, ◌==◌, not}
-use Rattle.std.proofs.lemmas.Fn.{filter_same}
-use Rattle.pim_findings.proofs.queues.remove.Goals as goal
-
-pub returns : goal.returns
-returns c = filter_same _ (λ other. not (other == c.args.one)) _ (λ x b f' k. search rules) _ _ c.retain.ensures.filtered

@@ -1,2 +1,0 @@
-pub mod Enders
-pub mod Following

@@ -1,4 +1,0 @@
-pub mod Waits
-pub mod Tables
-pub mod Records
-pub mod Laws

@@ -1,6 +1,0 @@
-pub mod Asked
-pub mod Asking
-pub mod Complete
-pub mod Granting
-pub mod Laws
-pub mod Searching
