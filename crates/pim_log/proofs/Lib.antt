@@ -1,4 +1,0 @@
-pub mod IndexLemmas
-pub mod FoundLemmas
-pub mod UsedLemmas
-pub mod Saying

@@ -1,4 +1,0 @@
-pub mod Numbers
-pub mod Events
-pub mod Headers
-pub mod Logs
