@@ -1,8 +1,0 @@
-use Rattle.std.proofs.Common.{arith}
-use Rattle.pim_facts_text.proofs.Names.{name_yes, some_bytes}
-use Rattle.pim_facts_text.proofs.name.is_name.Goals as goal
-
-pub returns : goal.returns
-returns c =
-    name_yes c.args.bytes.now (some_bytes c.args.bytes.now c.if-is_empty.ensures) (omega arith)
-    (λ k h. c.loop-place.invariant k (omega arith))
