@@ -1,3 +1,0 @@
-pub mod Pushing
-pub mod Counting
-pub mod Adding

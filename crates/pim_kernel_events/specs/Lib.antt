@@ -1,3 +1,0 @@
-pub mod Schedules
-pub mod Stretches
-pub mod Lines
