@@ -207,7 +207,8 @@ def commands(folder, pim, run):
             (changed.format("2,\\$d"), f"{none}: line 7, 10 1 waits 5: pim answers '' to step 2,"
              " 1 lock 1 = queued"),
             (changed.format("\\$d"), f"{none}: the report of pim doesn't end with the last step"),
-            ("sh -c 'echo no >&2; exit 2'", "sh judged nothing, with status 2: no"),
+            ("sh -c 'echo pim: no >&2; exit 2'", "no"),
+            ("sh -c 'exit 5'", "sh judged nothing, with status 5"),
             ("/nowhere", "/nowhere: No such file or directory")):
         check(f"--judge {judge[-16:]}",
               difference(said(judge=judge), (2, False, f"pim-report: {why}", None)))

@@ -1,4 +1,4 @@
-//! The README's example of a library's use. Its lines, from the first `use` to the end of `contend`, are in README.md.
+//! The example of docs/LIBRARY.md, which has these lines, from the first `use` to the end of `contend`.
 
 ghost use Rattle.std.specs.Prelude.{◌≡◌, max, IfOk};
 ghost use Rattle.pim_base.specs.Priorities.{effective_priority};
