@@ -1,14 +1,15 @@
 """The facts of a log as text, as record/facts writes them: a second implementation.
 
-It takes what happened from record/log_facts.py, and puts it into an order in which the lines may follow each other. For
+It takes what happened from log_facts.py, and puts it into an order in which the lines may follow each other. For
 each fact it looks through those before it and behind it.
 """
 import re
 from collections import namedtuple
 
+import log_facts
 import plain_facts_of_kernel as plain_kernel
 import plain_other_waits
-from record_logs import log_facts, reader
+from record_logs import reader
 
 MOST_LEVEL, MOST_TIME, LAST_THREAD, MOST_THREADS = 100, 10**19 - 1, 2**32 - 2, 65536
 NAME_BYTES, INIT_BYTES, MOST_PLACES = 64, 48, 16

@@ -2,10 +2,10 @@
 import os
 import pathlib
 
+import log_facts
 from checks import check, difference, skip, until
 from record_collector import PROGRAMS, RECORD, counted, read, run
 from record_last import PAIRS, does, is_permitted, snapshot, started
-from record_logs import log_facts
 from record_report import MOST_RECORDINGS, Report
 
 CONTENDED = "--contended"

@@ -1,6 +1,5 @@
 """Logs by record/FORMAT.md, for tests: of rows, and of a text with a line for each record. suite/recordings/README.md
 says what such a text has."""
-import importlib
 import importlib.machinery
 import importlib.util
 import pathlib
@@ -24,7 +23,6 @@ def module(path):
 
 
 reader = module(ROOT / "record/pim-log")
-log_facts = importlib.import_module("log_facts")  # of record/, as pim-log
 
 
 def without_places(paths):

@@ -3,21 +3,9 @@ which mutex. tests/plain_facts_of_log.py makes facts of it, which tests/record_t
 with those of pim-facts.
 """
 import bisect
-import importlib.machinery
-import importlib.util
-import pathlib
 from collections import defaultdict, namedtuple
 
-
-def module_of(path):
-    """Returns a script as a module."""
-    loader = importlib.machinery.SourceFileLoader("pim_log", str(path))
-    made = importlib.util.module_from_spec(importlib.util.spec_from_loader("pim_log", loader))
-    loader.exec_module(made)
-    return made
-
-
-reader = module_of(pathlib.Path(__file__).with_name("pim-log"))
+from record_logs import reader
 
 GRANTED, WAITS, GAVE_UP = "granted", "waits", "gave up"
 RELEASED, PRIORITY, CEILING = "released", "priority", "ceiling"
