@@ -1,5 +1,5 @@
 -- The first mutex on a way whose owner gets less than the thread that waits.
-use Rattle.std.proofs.Common.{◌≡◌, ℕ, zero, suc, ◌+◌, ◌<◌, ◌≤◌, inl, inr, true, List, [], ◌∷◌, Option, Some, None, length, option_and_then, filter_map, refl, sym, ◌∙◌, ap, arith, le_refl, le_trans, cond, nat_lt, unwrap_or}
+use Rattle.std.proofs.Common.{◌≡◌, ℕ, zero, suc, ◌+◌, ◌<◌, ◌≤◌, inl, inr, true, List, ◌∷◌, Option, Some, None, length, option_and_then, filter_map, refl, sym, ◌∙◌, ap, arith, le_refl, le_trans, cond, nat_lt, unwrap_or}
 use Rattle.std.specs.Option.{option_map}
 use Rattle.std.proofs.lemmas.Bool.{cases_lt, cond-true, cond-false, lt-ltb, le-ltb}
 use Rattle.std.proofs.lemmas.Option.{same_Some, none-some}

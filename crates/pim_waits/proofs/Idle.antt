@@ -1,5 +1,5 @@
 -- An owner that waits for nothing.
-use Rattle.std.proofs.Common.{◌≡◌, ◌≢◌, ℕ, zero, suc, ◌-◌, ◌<◌, ◌≤◌, ◌||◌, Bool, false, cond, Option, Some, None, is_some, length, option_and_then, refl, sym, ◌∙◌, ap, arith, le_trans, le_antisymm, unwrap_or}
+use Rattle.std.proofs.Common.{◌≡◌, ◌≢◌, ℕ, zero, suc, ◌-◌, ◌<◌, ◌≤◌, ◌||◌, false, cond, Option, Some, None, is_some, length, option_and_then, refl, sym, ◌∙◌, ap, arith, le_trans, le_antisymm, unwrap_or}
 use Rattle.std.specs.Option.{option_map}
 use Rattle.std.proofs.lemmas.Bool.{ne_eqb}
 use Rattle.std.proofs.lemmas.Option.{same_Some, none-some}

@@ -1,11 +1,11 @@
 -- The thread that has to run.
 use Rattle.std.proofs.Common.{◌≡◌, ◌≢◌, ℕ, ◌==◌, ◌||◌, Bool, true, false, cond, Option, Some, None, is_some, option_and_then, refl, sym, ◌∙◌, ap}
-use Rattle.std.proofs.lemmas.Bool.{true≢false, eq-eqb}
+use Rattle.std.proofs.lemmas.Bool.{eq-eqb}
 use Rattle.std.proofs.lemmas.Option.{same_Some}
 use Rattle.pim_base.specs.State.{State}
 use Rattle.pim_base.specs.Chains.{blocker}
 use Rattle.pim_waits.specs.Waiting.{way, runner, other_end, last_item}
-use Rattle.pim_waits.specs.Laws.{IsRunner, RunnerLaw}
+use Rattle.pim_waits.specs.Laws.{RunnerLaw}
 use Rattle.pim_waits.proofs.Ways.{contains-last_item}
 
 pub other_end-same : (S : State) (t u v : ℕ) → other_end S t u ≡ Some v → u ≡ v

@@ -1,5 +1,5 @@
 -- Which threads are on a CPU.
-use Rattle.std.proofs.Common.{◌≡◌, ℕ, ◌≤◌, ◌++◌, ◌∷◌, [], Bool, true, false, not, ◌&&◌, cond, length, length-append, Option, Some, None, unwrap_or, option_and_then, replicate, inl, inr, refl, sym, ◌∙◌, ap, arith}
+use Rattle.std.proofs.Common.{◌≡◌, ℕ, ◌≤◌, ◌∷◌, [], Bool, true, false, not, ◌&&◌, cond, length, length-append, Option, Some, None, unwrap_or, option_and_then, inl, inr, refl, sym, ◌∙◌, ap, arith}
 use Rattle.std.specs.Prelude.{◌+◌}
 use Rattle.std.proofs.lemmas.Bool.{cases_eq, ne_eqb, eq-eqb, and_from, true≢false}
 use Rattle.std.proofs.lemmas.List.{length-replicate}

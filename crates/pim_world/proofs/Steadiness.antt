@@ -1,9 +1,9 @@
 -- The world after each text is steady.
-use Rattle.std.proofs.Common.{◌≡◌, ℕ, zero, suc, ◌<◌, ◌≤◌, ◌++◌, List, [], ◌∷◌, Bool, true, false, not, ◌&&◌, cond, length, length-append, Option, Some, None, is_none, inl, inr, refl, sym, ◌∙◌, ap, subst, arith, if◌then◌else◌}
+use Rattle.std.proofs.Common.{◌≡◌, ℕ, zero, suc, ◌++◌, List, [], ◌∷◌, Bool, true, false, not, cond, length, length-append, Option, Some, None, is_none, inl, inr, refl, sym, ◌∙◌, ap, subst, arith, if◌then◌else◌}
 use Rattle.std.specs.Prelude.{◌+◌}
 use Rattle.std.specs.List.{fold}
 use Rattle.std.specs.Option.{option_map}
-use Rattle.std.proofs.lemmas.Bool.{cases_eq, cases_lt, ne_eqb, eq-eqb, and_parts, true≢false}
+use Rattle.std.proofs.lemmas.Bool.{cases_eq, cases_lt, ne_eqb, eq-eqb, and_parts}
 use Rattle.std.proofs.lemmas.Option.{same_Some, none-some}
 use Rattle.pim_base.specs.Lists.{nth}
 use Rattle.pim_base.specs.State.{State, IsTask, owner_of, with_wait, with_ceiling}
@@ -22,7 +22,7 @@ use Rattle.pim_world.specs.Following.{declared, may_happen, may_be_next, may_fol
 use Rattle.pim_world.specs.After.{after, after_what, at, at_time, set, locked, unlocked, with_state}
 use Rattle.pim_world.specs.Texts.{line_after, lines_after}
 use Rattle.pim_world.specs.Laws.{SteadyLaw}
-use Rattle.pim_world.specs.Steady.{IsSteadyKernel, AreSteady, IsSteady}
+use Rattle.pim_world.specs.Steady.{IsSteadyKernel, IsSteady}
 use Rattle.pim_world.proofs.Cpus.{steady_runs, steady_forgotten, steady_more, steady_on, steady_off}
 use Rattle.pim_world.proofs.States.{IsLike, like_wait, like_base, like_ceiling, like_locked, like_unlocked, like_then}
 
