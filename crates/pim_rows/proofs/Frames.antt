@@ -31,10 +31,10 @@ base-unlocked S m = either (λ S. S.base) (nat_lt 1 (count_of S m)) (with_count 
 
 -- ---- waits
 
-wait-locked : (S : State) (t m : ℕ) → (locked S t m).wait ≡ S.wait
+pub wait-locked : (S : State) (t m : ℕ) → (locked S t m).wait ≡ S.wait
 wait-locked S t m = either (λ S. S.wait) (is_some (owner_of S m)) (with_count S m (count_of S m + 1)) (with_owner S m (Some t)) S.wait refl refl
 
-wait-unlocked : (S : State) (m : ℕ) → (unlocked S m).wait ≡ S.wait
+pub wait-unlocked : (S : State) (m : ℕ) → (unlocked S m).wait ≡ S.wait
 wait-unlocked S m = either (λ S. S.wait) (nat_lt 1 (count_of S m)) (with_count S m (count_of S m - 1)) (with_owner S m None) S.wait refl refl
 
 -- what is done at the place of a mutex, if it is declared, keeps what both keep

@@ -1,9 +1,10 @@
 -- Waits that are kept by place, as they go on one after another, and by a line.
-use Rattle.std.proofs.Common.{◌≡◌, ◌≢◌, ◌≤◌, ◌<◌, ◌+◌, ◌-◌, ◌⊎◌, ℕ, zero, suc, Bool, true, false, not, ◌&&◌, List, length, Option, Some, None, refl, sym, ◌∙◌, ap, subst, inl, inr, arith, set, get_or, add-one, unwrap_or, is_some, if◌then◌else◌}
-use Rattle.std.proofs.lemmas.Option.{slice_get_past, same_Some}
-use Rattle.std.proofs.lemmas.Bool.{cases_lt}
+use Rattle.std.proofs.Common.{◌≡◌, ◌≢◌, ◌≤◌, ◌<◌, ◌+◌, ◌-◌, ◌⊎◌, ℕ, zero, suc, Bool, true, false, not, ◌&&◌, ◌||◌, List, [], length, take, Option, Some, None, refl, sym, ◌∙◌, ap, subst, inl, inr, arith, set, get_or, add-one, unwrap_or, is_some, if◌then◌else◌}
+use Rattle.std.proofs.lemmas.Option.{same_Some}
+use Rattle.std.specs.Prelude.{◌==◌}
+use Rattle.std.proofs.lemmas.Bool.{eq-eqb}
 use Rattle.std.proofs.lemmas.Bool.Decides.{eqb_tells}
-use Rattle.pim_base.specs.Lists.{nth}
+use Rattle.pim_base.specs.Lists.{nth, contains}
 use Rattle.pim_base.proofs.Places.{nth-get_or, nth-put_same, nth-put_other}
 use Rattle.std.specs.Option.{option_map}
 use Rattle.pim_base.specs.declared.steps.Wait.{Wait}
@@ -15,12 +16,13 @@ use Rattle.pim_rows.specs.Moments.{Moment, now, number, followed_by, clock}
 use Rattle.pim_rows.specs.Standing.{standing, waits}
 use Rattle.pim_rows.specs.Tallies.{Tally, tally}
 use Rattle.pim_rows.specs.Found.{actor}
-use Rattle.pim_rows.specs.OpenWaits.{Follows, ShowsWait, Begins, GoesOn}
-use Rattle.pim_rows.specs.AllOpen.{AreOpen, AreUntil, GoneOn, GoneOnAt, EndedAt, BegunAt, SameBut, SoFar, open_at, ended_times}
+use Rattle.pim_rows.specs.OpenWaits.{Follows, IsUntil, ShowsWait, Begins, Renews}
+use Rattle.pim_rows.specs.AllOpen.{AreOpen, AreUntil, AreSame, AreCurrent, GoneOn, GoneOnAt, EndedAt, BegunAt, SameBut, SoFar, open_at, ended_times}
 use Rattle.pim_rows.specs.declared.open_wait.OpenWait.{OpenWait}
 use Rattle.pim_rows.proofs.Clock.{clock-le-after}
 use Rattle.pim_rows.proofs.Frames.{wait-after}
-use Rattle.pim_rows.proofs.Waiting.{IsUntil-later}
+use Rattle.pim_rows.proofs.InOrder.{contains_more}
+use Rattle.pim_rows.proofs.Waiting.{IsUntil-later, Follows-same}
 
 pub at_index : {X : Type 0} (xs : List X) (i : ℕ) (x d : X) → d ≡ get_or xs i d → d ≡ x → i < length xs → nth xs (i + 1) ≡ Some x
 at_index xs i x d e is h = nth-get_or xs (i + 1) i d refl h ∙ ap Some (sym e ∙ is)
@@ -31,44 +33,115 @@ set_here xs i x h = rw (add-one i) (nth-put_same xs (suc i) x (omega arith) (ome
 pub set_else : {X : Type 0} (xs : List X) (i t : ℕ) (x : X) → t ≢ i + 1 → nth (set xs i x) t ≡ nth xs t
 set_else xs i t x ne = nth-put_other xs (suc i) t x (λ e. ne (sym e ∙ sym (add-one i)))
 
-nth_past : {X : Type 0} (xs : List X) (t : ℕ) → length xs < t → nth xs t ≡ None
-nth_past xs zero h = absurd (omega arith)
-nth_past xs (suc t) h = slice_get_past xs t (omega arith)
+-- ---- one after another
+
+-- what went on by a line goes on no more by it
+gone_twice : (w : World) (t : ℕ) (x y z : Option (Option OpenWait)) → GoneOnAt w t x y → GoneOnAt w t y z → GoneOnAt w t x z
+gone_twice w t None None None first second = tt
+gone_twice w t None None (Some new) first second = absurd second
+gone_twice w t None (Some mid) z first second = absurd first
+gone_twice w t (Some old) None z first second = absurd first
+gone_twice w t (Some old) (Some mid) None first second = absurd second
+gone_twice w t (Some None) (Some None) (Some None) first second = tt
+gone_twice w t (Some None) (Some None) (Some (Some new)) first second = absurd second
+gone_twice w t (Some None) (Some (Some mid)) (Some z) first second = absurd first
+gone_twice w t (Some (Some old)) (Some None) (Some z) first second = absurd first
+gone_twice w t (Some (Some old)) (Some (Some mid)) (Some None) first second = absurd second
+gone_twice w t (Some (Some old)) (Some (Some mid)) (Some (Some new)) first second =
+    let P : OpenWait → Type 0 = λ new. Renews old new w.clock (standing w t) in
+    subst P (sym (second.again first.current)) first
+
+-- what went on is of no later time
+gone_until : (w : World) (t : ℕ) (x y : Option (Option OpenWait)) (o : OpenWait) → GoneOnAt w t x y → y ≡ Some (Some o) → IsUntil w.clock o
+gone_until w t x None o gone e = cc
+gone_until w t x (Some None) o gone e = cc
+gone_until w t None (Some (Some p)) o gone e = absurd gone
+gone_until w t (Some None) (Some (Some p)) o gone e = absurd gone
+gone_until w t (Some (Some old)) (Some (Some p)) o gone e =
+    let same : p ≡ o = same_Some p o (same_Some (Some p) (Some o) e) in
+    let P : OpenWait → Type 0 = λ p. IsUntil w.clock p in
+    subst P same gone.until
+
+-- what needs no change has gone on
+gone_same : (w : World) (t : ℕ) (x : Option (Option OpenWait))
+    → ((o : OpenWait) → x ≡ Some (Some o) → (o.standing ≡ standing w t) × IsUntil w.clock o) → GoneOnAt w t x x
+gone_same w t None is = tt
+gone_same w t (Some None) is = tt
+gone_same w t (Some (Some o)) is =
+    let both = is o refl in
+    record {
+      goes = λ u ms m follows later shows.
+          Follows-same o u ms m follows later shows.lasts (shows.current ∙ sym both.0 ∙ sym follows.current);
+      current = both.0;
+      again = λ e. refl;
+      until = both.1;
+    }
 
 module _ (w : World) (old : List (Option OpenWait)) where
-  pub so_far_none : SoFar w old old 0
-  so_far_none = record { len = refl; done = none; left = λ t h. refl }
-    where
-      none : (t : ℕ) → t ≤ 0 → GoneOnAt w t (nth old t) (nth old t)
-      none zero h = tt
-      none (suc t) h = absurd (omega arith)
+  pub so_far_none : SoFar w [] old old
+  so_far_none = record { len = refl; done = λ t h. absurd (let no : false ≡ true = h in cc); left = λ t h. refl }
 
-  pub so_far_next : (now next : List (Option OpenWait)) (i : ℕ) → SoFar w old now i → GoneOnAt w (i + 1) (nth now (i + 1)) (nth next (i + 1)) → ((t : ℕ) → t ≢ i + 1 → nth next t ≡ nth now t) → length next ≡ length now → SoFar w old next (i + 1)
-  so_far_next now next i so here others len = record {
+  pub so_far_next : (ts : List ℕ) (now next : List (Option OpenWait)) (i x : ℕ) → i < length ts → x ≡ get_or ts i x
+      → SoFar w (take i ts) old now → GoneOnAt w x (nth now x) (nth next x) → ((t : ℕ) → t ≢ x → nth next t ≡ nth now t)
+      → length next ≡ length now → SoFar w (take (i + 1) ts) old next
+  so_far_next ts now next i x h is so here others len = record {
     len = len ∙ so.len;
-    done = λ t h. elim (eqb_tells t (i + 1)) [
-      | inl (_, e) ↦
-          let P : ℕ → Type 0 = λ t. GoneOnAt w t (nth old t) (nth next t) in
-          subst P (sym e) (let Q : Option (Option OpenWait) → Type 0 = λ x. GoneOnAt w (i + 1) x (nth next (i + 1)) in subst Q (so.left (i + 1) (omega arith)) here)
-      | inr (_, ne) ↦
-          let P : Option (Option OpenWait) → Type 0 = λ x. GoneOnAt w t (nth old t) x in
-          subst P (sym (others t ne)) (so.done t (omega arith))
+    done = λ t among. elim (eqb_tells t x) [
+      | inl (_, e) ↦ let P : ℕ → Type 0 = λ t. GoneOnAt w t (nth old t) (nth next t) in subst P (sym e) again
+      | inr (differs, ne) ↦
+          let P : Option (Option OpenWait) → Type 0 = λ y. GoneOnAt w t (nth old t) y in
+          subst P (sym (others t ne)) (so.done t (or_first (contains (take i ts) t) (t == x) differs (sym (contains_more ts i x t h is) ∙ among)))
     ];
-    left = λ t h. others t (omega arith) ∙ so.left t (omega arith);
+    left = λ t out.
+        let parts = or_neither (contains (take i ts) t) (t == x) (sym (contains_more ts i x t h is) ∙ out) in
+        others t (λ e. let no : false ≡ true = sym parts.1 ∙ eq-eqb t x e in cc) ∙ so.left t parts.0;
   }
+    where
+      or_first : (a b : Bool) → b ≡ false → (a || b) ≡ true → a ≡ true
+      or_first true b h e = refl
+      or_first false b h e = absurd (let no : false ≡ true = sym h ∙ e in cc)
 
-  pub so_far_all : (new : List (Option OpenWait)) (n : ℕ) → length old ≤ n → SoFar w old new n → (t : ℕ) → GoneOnAt w t (nth old t) (nth new t)
-  so_far_all new n long so t = elim (cases_lt n t) [
-    | inl h ↦
-        let P : Option (Option OpenWait) → Type 0 = λ x. GoneOnAt w t x (nth new t) in
-        let Q : Option (Option OpenWait) → Type 0 = λ x. GoneOnAt w t None x in
-        subst P (sym (nth_past old t (omega arith))) (subst Q (sym (nth_past new t (rw so.len (omega arith)))) tt)
-    | inr h ↦ so.done t h
-  ]
+      or_neither : (a b : Bool) → (a || b) ≡ false → (a ≡ false) × (b ≡ false)
+      or_neither true b e = absurd (let no : true ≡ false = e in cc)
+      or_neither false b e = (refl, e)
+
+      before : (b : Bool) → contains (take i ts) x ≡ b → GoneOnAt w x (nth old x) (nth next x)
+      before true among = gone_twice w x (nth old x) (nth now x) (nth next x) (so.done x among) here
+      before false out =
+          let P : Option (Option OpenWait) → Type 0 = λ y. GoneOnAt w x y (nth next x) in subst P (so.left x out) here
+
+      again : GoneOnAt w x (nth old x) (nth next x)
+      again = before (contains (take i ts) x) refl
+
+  pub so_far_until : (ts : List ℕ) (now : List (Option OpenWait)) → SoFar w ts old now → AreUntil w.clock old → AreUntil w.clock now
+  so_far_until ts now so until t o e = go (contains ts t) refl
+    where
+      go : (b : Bool) → contains ts t ≡ b → IsUntil w.clock o
+      go true among = gone_until w t (nth old t) (nth now t) o (so.done t among) e
+      go false out = until t o (sym (so.left t out) ∙ e)
+
+  pub so_far_all : (ts : List ℕ) (new : List (Option OpenWait)) → SoFar w ts old new → AreUntil w.clock old → AreCurrent w ts old
+      → (t : ℕ) → GoneOnAt w t (nth old t) (nth new t)
+  so_far_all ts new so until current t = go (contains ts t) refl
+    where
+      go : (b : Bool) → contains ts t ≡ b → GoneOnAt w t (nth old t) (nth new t)
+      go true among = so.done t among
+      go false out =
+          let P : Option (Option OpenWait) → Type 0 = λ y. GoneOnAt w t (nth old t) y in
+          subst P (sym (so.left t out)) (gone_same w t (nth old t) (λ o e. (current t o e out, until t o e)))
+
+-- taking one out leaves the others as they are
+pub current_but : (w : World) (ts : List ℕ) (old mid : List (Option OpenWait)) (t : ℕ) → open_at mid t ≡ None
+    → ((n : ℕ) → n ≢ t → nth mid n ≡ nth old n) → AreCurrent w ts old → AreCurrent w ts mid
+current_but w ts old mid t none others current n o e out = elim (eqb_tells n t) [
+  | inl (_, same) ↦
+      absurd (let f : None ≡ Some o = sym none ∙ ap (open_at mid) (sym same) ∙ ap (λ o. unwrap_or o None) e in cc)
+  | inr (_, ne) ↦ current n o (sym (others n ne) ∙ e) out
+]
 
 -- ---- one place
 
-before_place : (n : ℕ) → n ≢ 0 → n - 1 + 1 ≡ n
+pub before_place : (n : ℕ) → n ≢ 0 → n - 1 + 1 ≡ n
 before_place n pos = omega (arith, pos)
 
 pub get_place : {X : Type 0} (xs : List X) (n : ℕ) (d : X) → n ≢ 0 → n ≤ length xs → nth xs n ≡ Some (get_or xs (n - 1) d)
@@ -110,12 +183,12 @@ module _ (w : World) (t : ℕ) where
   gone_at (Some old) (Some new) g = g
 
   -- what goes on was kept
-  went_on : (x y : Option OpenWait) (o : OpenWait) → GoneOn w t x y → y ≡ Some o → (p : OpenWait) × (x ≡ Some p) × GoesOn p o w.clock (standing w t)
+  went_on : (x y : Option OpenWait) (o : OpenWait) → GoneOn w t x y → y ≡ Some o → (p : OpenWait) × (x ≡ Some p) × Renews p o w.clock (standing w t)
   went_on None None o g e = cc
   went_on None (Some new) o g e = absurd g
   went_on (Some old) None o g e = absurd g
   went_on (Some old) (Some new) o g e =
-      let P : OpenWait → Type 0 = λ o. GoesOn old o w.clock (standing w t) in
+      let P : OpenWait → Type 0 = λ o. Renews old o w.clock (standing w t) in
       (old, refl, subst P (same_Some new o e) g)
 
   -- what was kept goes on
@@ -183,7 +256,7 @@ module _ (ms : List Moment) (l : Line) (w : World) (is_after : w ≡ after (now 
   each_followed old new t (inl (same, gone)) are o e =
       let before = went_on w t (open_at old t) (open_at new t) o gone e in
       let follows = are.each t before.0 before.1 in
-      before.2 t ms next follows (clock-le-after (now ms) l) (shows t (same ∙ follows.lasts))
+      before.2.goes t ms next follows (clock-le-after (now ms) l) (shows t (same ∙ follows.lasts))
   each_followed old new t (inr (inl (ends, none))) are o e = absurd (let f : None ≡ Some o = sym none ∙ e in cc)
   each_followed old new t (inr (inr (before, lasts, begun))) are o e =
       let b = begun_at w t (open_at new t) begun in
@@ -206,6 +279,12 @@ module _ (ms : List Moment) (l : Line) (w : World) (is_after : w ≡ after (now 
 
   others_wait : (t : ℕ) → ((j : ℕ) → actor (now ms) l ≡ Some j → j ≢ t) → waits t w ≡ waits t (now ms)
   others_wait t others = ap (waits t) is_after ∙ ap is_some (wait-after l t (now ms) others)
+
+  -- what is kept of a thread of which the same holds is what holds of it now
+  pub current_after : (ts : List ℕ) (old : List (Option OpenWait)) → AreSame (now ms) (after (now ms) l) ts → AreOpen old ms → AreCurrent w ts old
+  current_after ts old same are t o e out =
+      let follows = are.each t o (open_kept old t o e) in
+      sym follows.current ∙ sym (same t follows.lasts out) ∙ ap (λ (w : World). standing w t) (sym is_after)
 
   -- a line of no thread
   pub opens_kept : (old new : List (Option OpenWait)) → None ≡ actor (now ms) l → ((t : ℕ) → GoneOnAt w t (nth old t) (nth new t)) → AreOpen old ms → AreOpen new (followed_by ms l)

@@ -110,7 +110,7 @@ runs_len-fact : (time t : ℕ) (what : What) (w : World) → length (after w (li
 runs_len-fact time t what w =
     fact_kept (λ w. length w.kernel.runs) (w.thread t) what time w (λ p e. runs_len-after_what what p (at_time time w)) refl
 
-base_len-fact : (time t : ℕ) (what : What) (w : World) → length (after w (lines.Fact time t what)).state.base ≡ length w.state.base
+pub base_len-fact : (time t : ℕ) (what : What) (w : World) → length (after w (lines.Fact time t what)).state.base ≡ length w.state.base
 base_len-fact time t what w =
     fact_kept (λ w. length w.state.base) (w.thread t) what time w (λ p e. base_len-after_what what p (at_time time w)) refl
 

@@ -36,6 +36,15 @@ Follows-same w t ms m follows later lasts same = record {
   until = IsUntil-later w (clock ms) m.world.clock later follows.until;
 }
 
+-- the times until now are within the clock
+pub within_added : (w : OpenWait) (times : Tally) (clock : ℕ) → times ≡ with_time w.standing (clock - w.since) w.tally → IsUntil clock w →
+    IsWithin clock times
+within_added w times clock added until =
+    let since = until.since in
+    let all : w.since + (clock - w.since) ≡ clock = omega arith in
+    rw added (subst (λ n. IsWithin n (with_time w.standing (clock - w.since) w.tally)) all
+    (IsWithin-with_time w.standing (clock - w.since) w.since w.tally until.within))
+
 -- another standing takes the place of the last one
 pub Follows-other : (w : OpenWait) (times : Tally) (t : ℕ) (ms : List Moment) (m : Moment) (clock' : ℕ) (s : Standing) →
     times ≡ with_time w.standing (clock' - w.since) w.tally →

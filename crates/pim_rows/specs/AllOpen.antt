@@ -1,14 +1,14 @@
 -- What is kept of all waits that last.
-use Rattle.std.specs.Prelude.{◌≡◌, ◌≢◌, ◌≤◌, ◌<◌, ℕ, true, not, ◌&&◌, List, length, Option, Some, None, unwrap_or, if◌then◌else◌}
+use Rattle.std.specs.Prelude.{◌≡◌, ◌≢◌, ℕ, true, false, not, ◌&&◌, List, length, Option, Some, None, unwrap_or, if◌then◌else◌}
 use Rattle.std.specs.Option.{option_and_then}
-use Rattle.pim_base.specs.Lists.{nth}
+use Rattle.pim_base.specs.Lists.{nth, contains}
 use Rattle.pim_fact_lines.specs.declared.line.Line.{Line}
 use Rattle.pim_world.specs.Worlds.{World}
 use Rattle.pim_world.specs.After.{after}
 use Rattle.pim_rows.specs.Moments.{Moment, now, followed_by}
 use Rattle.pim_rows.specs.Standing.{standing, waits}
 use Rattle.pim_rows.specs.Tallies.{Tally, tally}
-use Rattle.pim_rows.specs.OpenWaits.{Follows, IsUntil, Begins, GoesOn, EndsWith}
+use Rattle.pim_rows.specs.OpenWaits.{Follows, IsUntil, Begins, Renews, EndsWith}
 use Rattle.pim_rows.specs.declared.open_wait.OpenWait.{OpenWait}
 
 -- the wait of t that is kept, if one is. The list may end before t: then none is.
@@ -52,7 +52,7 @@ abbrev pub GoneOn : World → ℕ → Option OpenWait → Option OpenWait → Ty
 GoneOn w t None None = Unit {0}
 GoneOn w t None (Some new) = ⊥
 GoneOn w t (Some old) None = ⊥
-GoneOn w t (Some old) (Some new) = GoesOn old new w.clock (standing w t)
+GoneOn w t (Some old) (Some new) = Renews old new w.clock (standing w t)
 
 -- the same of what may be kept at a place
 abbrev pub GoneOnAt : World → ℕ → Option (Option OpenWait) → Option (Option OpenWait) → Type 0
@@ -61,8 +61,16 @@ GoneOnAt w t None (Some new) = ⊥
 GoneOnAt w t (Some old) None = ⊥
 GoneOnAt w t (Some old) (Some new) = GoneOn w t old new
 
--- the waits up to this place have gone on, and the others are as they were
-pub record SoFar (w : World) (old new : List (Option OpenWait)) (n : ℕ) : Type 0 where
+-- of each thread that waits, and isn't one of these, the same holds in both worlds
+abbrev pub AreSame : World → World → List ℕ → Type 0
+AreSame w after ts = (t : ℕ) → waits t w ≡ true → contains ts t ≡ false → standing after t ≡ standing w t
+
+-- of each thread whose wait is kept, and which isn't one of these, it is kept what holds in this world
+abbrev pub AreCurrent : World → List ℕ → List (Option OpenWait) → Type 0
+AreCurrent w ts opens = (t : ℕ) (o : OpenWait) → nth opens t ≡ Some (Some o) → contains ts t ≡ false → o.standing ≡ standing w t
+
+-- the waits of these threads have gone on, and the others are as they were
+pub record SoFar (w : World) (ts : List ℕ) (old new : List (Option OpenWait)) : Type 0 where
   pub len : length new ≡ length old
-  pub done : (t : ℕ) → t ≤ n → GoneOnAt w t (nth old t) (nth new t)
-  pub left : (t : ℕ) → n < t → nth new t ≡ nth old t
+  pub done : (t : ℕ) → contains ts t ≡ true → GoneOnAt w t (nth old t) (nth new t)
+  pub left : (t : ℕ) → contains ts t ≡ false → nth new t ≡ nth old t

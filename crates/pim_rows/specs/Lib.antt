@@ -18,6 +18,7 @@ pub mod Findings
 pub mod OpenWaits
 pub mod Laws
 pub mod AllOpen
+pub mod Affected
 pub mod Before
 pub mod Ending
 pub mod Inversions

@@ -40,6 +40,13 @@ GoesOn old new clock s =
     → ShowsWait m t clock s
     → Follows new t (m ∷ ms)
 
+-- It goes on so. A second line at this time, after which the same holds, changes nothing more.
+pub record Renews (old new : OpenWait) (clock : ℕ) (s : Standing) : Type 0 where
+  pub goes : GoesOn old new clock s
+  pub current : new.standing ≡ s
+  pub again : old.standing ≡ s → new ≡ old
+  pub until : IsUntil clock new
+
 -- the times are those of each wait of which this was, if a line at this time ends it
 abbrev pub EndsWith : OpenWait → ℕ → Tally → Type 0
 EndsWith w clock times =

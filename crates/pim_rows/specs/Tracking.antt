@@ -13,12 +13,14 @@ use Rattle.pim_rows.specs.Starts.{AreStarts}
 use Rattle.pim_rows.specs.AllOpen.{AreOpen}
 use Rattle.pim_rows.specs.OffTimes.{AreOffTimes}
 use Rattle.pim_rows.specs.Runs.{AreRuns, IsEven}
+use Rattle.pim_rows.specs.Affected.{AreWaits}
 use Rattle.pim_rows.specs.Puts.{Puts}
 
 -- it has followed these lines: what it keeps is of what lasts, and it has written the rows of what ended
 pub record Tracks (t : Tracker) (ms : List Moment) : Type 0 where
   pub world : world_of t.world ≡ now ms
   pub even : IsEven (now ms)
+  pub waiting : AreWaits (now ms)
   pub number : t.number ≡ number ms
   pub starts : AreStarts waits wait_start (kept_of t.starts.starts) ms
   pub opens : AreOpen t.opens.opens.items ms

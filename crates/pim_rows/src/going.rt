@@ -1,8 +1,10 @@
 //! The world, and the times off a CPU, after one line more.
 
-ghost use Rattle.std.specs.Prelude.{◌≡◌, ℕ, List, Some, IfOk};
+ghost use Rattle.std.specs.Prelude.{◌≡◌, ℕ, List, false, [], Some, IfOk};
+ghost use Rattle.pim_waits.specs.Touched.{Touches};
+ghost use Rattle.pim_world.specs.Touching.{declares};
 ghost use Rattle.pim_world.specs.After.{after};
-ghost use Rattle.pim_world.specs.Held.{world_of};
+ghost use Rattle.pim_world.specs.Held.{world_of, touched_of};
 ghost use Rattle.pim_rows.specs.Moments.{Moment, now, followed_by};
 ghost use Rattle.pim_rows.specs.Standing.{is_off};
 ghost use Rattle.pim_rows.specs.Found.{actor};
@@ -29,6 +31,8 @@ pub(crate) fn go(
     was_off: bool,
 ) -> Result<(), AllocError>
     ensures world { IfOk result (λ _. world_of world.new ≡ after (world_of world.old) line.now) }
+    ensures touched { IfOk result (λ _. declares line.now ≡ false
+        → Touches (world_of world.old).state (world_of world.new).state [] (touched_of world.new)) }
     ensures off { IfOk result (λ _. (ms : List Moment) → world_of world.old ≡ now ms → thread ≡ actor (now ms) line.now
         → ((t : ℕ) → thread ≡ Some t → was_off ≡ is_off t (now ms))
         → AreOffTimes (kept_of off_times.old.starts) ms

@@ -9,6 +9,7 @@
 //! ```
 #![tactic(auto)]
 
+mod affected;
 mod before;
 mod block;
 mod block_rows;

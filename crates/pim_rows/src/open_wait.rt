@@ -1,7 +1,7 @@
 //! A wait that lasts.
 
 ghost use Rattle.std.specs.Prelude.{IfOk};
-ghost use Rattle.pim_rows.specs.OpenWaits.{IsUntil, Begins, GoesOn, EndsWith, HasTimes};
+ghost use Rattle.pim_rows.specs.OpenWaits.{IsUntil, Begins, Renews, EndsWith, HasTimes};
 
 use crate::tally::{Standing, Tally};
 use std::alloc::{AllocError, Global};
@@ -36,7 +36,7 @@ impl OpenWait {
     /// Returns `AllocError` if out of memory. The wait is of no use then.
     pub fn refresh(&mut self, clock: u64, standing: Standing) -> Result<(), AllocError>
         requires { IsUntil clock self.old }
-        ensures { IfOk result (λ _. GoesOn self.old self.new clock standing) }
+        ensures { IfOk result (λ _. Renews self.old self.new clock standing) }
     {
         if self.standing.is(&standing) {
             return Ok(());

@@ -10,7 +10,7 @@ ghost use Rattle.pim_rows.specs.Moments.{Moment, now, first_moments, followed_by
 ghost use Rattle.pim_rows.specs.Standing.{waits};
 ghost use Rattle.pim_rows.specs.Found.{actor};
 ghost use Rattle.pim_rows.specs.OpenWaits.{IsUntil};
-ghost use Rattle.pim_rows.specs.AllOpen.{AreOpen, AreUntil, GoneOnAt, EndedAt, BegunAt, SameBut, open_at, ended_times};
+ghost use Rattle.pim_rows.specs.AllOpen.{AreOpen, AreUntil, AreSame, AreCurrent, GoneOnAt, EndedAt, BegunAt, SameBut, open_at, ended_times};
 
 use crate::open_wait::OpenWait;
 use crate::tally::{Standing, Tally};
@@ -34,8 +34,8 @@ impl OpenWaits {
         }
     }
 
-    /// Goes on by a line. Takes the world after it, its thread, and whether that waited before. Returns for how long what
-    /// held of that thread, if the line ended its wait.
+    /// Goes on by a line. Takes the world after it, its thread, whether that waited before, and the threads of which
+    /// something else may hold. Returns for how long what held of its thread, if the line ended its wait.
     ///
     /// # Errors
     ///
@@ -46,10 +46,12 @@ impl OpenWaits {
         world: &World,
         thread: Option<ThreadPlace>,
         was: bool,
+        affected: &[ThreadPlace],
     ) -> Result<Option<Tally>, AllocError>
         requires { AreUntil (world_of world.now).clock self.old.opens.items }
         ensures kept { IfOk result (λ _. (ms : List Moment) (l : Line) → world_of world.now ≡ after (now ms) l
             → thread ≡ actor (now ms) l → ((t : ℕ) → thread ≡ Some t → was ≡ waits t (now ms))
+            → AreSame (now ms) (after (now ms) l) affected.now
             → AreOpen self.old.opens.items ms
             → AreOpen self.new.opens.items (followed_by ms l)) }
         ensures ended { IfOk result (λ times. (ms : List Moment) (l : Line) → world_of world.now ≡ after (now ms) l
@@ -58,15 +60,15 @@ impl OpenWaits {
             → times ≡ ended_times thread ms l) }
     {
         let Some(thread) = thread else {
-            self.refresh(world)?;
+            self.refresh(world, affected)?;
             return Ok(None);
         };
         if world.waits().awaited(thread).is_none() {
             let ended = self.end(thread, world.clock())?;
-            self.refresh(world)?;
+            self.refresh(world, affected)?;
             return Ok(ended);
         }
-        self.refresh(world)?;
+        self.refresh(world, affected)?;
         if was {
             return Ok(None);
         }
@@ -122,19 +124,37 @@ impl OpenWaits {
         self.opens[place - 1].take()
     }
 
-    /// Goes on by a line with all waits that are kept. Takes the world after it, in which each thread waits whose wait is kept.
-    pub(crate) fn refresh(&mut self, world: &World) -> Result<(), AllocError>
+    /// Goes on by a line with the waits of threads of which something else may hold. Takes the world after it, in which each
+    /// thread waits whose wait is kept.
+    fn refresh(&mut self, world: &World, affected: &[ThreadPlace]) -> Result<(), AllocError>
         requires { AreUntil (world_of world.now).clock self.old.opens.items }
-        ensures { IfOk result (λ _. (t : ℕ) → GoneOnAt (world_of world.now) t (nth self.old.opens.items t) (nth self.new.opens.items t)) }
+        ensures { IfOk result (λ _. AreCurrent (world_of world.now) affected.now self.old.opens.items
+            → (t : ℕ) → GoneOnAt (world_of world.now) t (nth self.old.opens.items t) (nth self.new.opens.items t)) }
     {
-        for index in 0..self.opens.len() {
-            self.refresh_at(world, index)?;
+        for thread in affected {
+            self.refresh_at(world, *thread)?;
         }
         Ok(())
     }
 
+    /// Goes on with the wait of a thread, if one is kept.
+    fn refresh_at(&mut self, world: &World, thread: ThreadPlace) -> Result<(), AllocError>
+        requires { (w : OpenWait) → nth self.old.opens.items thread ≡ Some (Some w) → IsUntil (world_of world.now).clock w }
+        ensures here { IfOk result (λ _. GoneOnAt (world_of world.now) thread
+            (nth self.old.opens.items thread) (nth self.new.opens.items thread)) }
+        ensures others { IfOk result (λ _. (t : ℕ) → t ≢ thread
+            → nth self.new.opens.items t ≡ nth self.old.opens.items t) }
+        ensures len { length self.new.opens.items ≡ length self.old.opens.items }
+    {
+        if thread.0 == 0 || self.opens.len() < thread.0 {
+            return Ok(());
+        }
+        self.refresh_in(world, thread.0 - 1)?;
+        Ok(())
+    }
+
     /// Goes on with the wait at one place.
-    fn refresh_at(&mut self, world: &World, index: usize) -> Result<(), AllocError>
+    fn refresh_in(&mut self, world: &World, index: usize) -> Result<(), AllocError>
         requires within { index < length self.old.opens.items }
         requires until { (w : OpenWait) → nth self.old.opens.items (index + 1) ≡ Some (Some w) → IsUntil (world_of world.now).clock w }
         ensures here { IfOk result (λ _. GoneOnAt (world_of world.now) (index + 1)

@@ -13,6 +13,7 @@ ghost use Rattle.pim_rows.specs.Kept.{kept_of};
 ghost use Rattle.pim_rows.specs.OffTimes.{AreOffTimes};
 ghost use Rattle.pim_rows.specs.Tracking.{Tracks};
 
+use crate::affected::affected;
 use crate::before::Before;
 use crate::blocks::Blocks;
 use crate::deadlocks::{by_number, put_deadlocks};
@@ -136,7 +137,10 @@ impl Tracker {
         self.number = n;
 
         let (world, out) = (&self.world, &mut self.out);
-        let times = self.opens.follow(alloc, world, *thread, was.waits)?;
+        let affected = affected(alloc, world, line)?;
+        let times = self
+            .opens
+            .follow(alloc, world, *thread, was.waits, &affected)?;
         let ended = put_ended(
             out,
             world,

@@ -4,3 +4,4 @@ pub mod Halfway
 pub mod States
 pub mod Cpus
 pub mod Steadiness
+pub mod Touching

@@ -1,5 +1,5 @@
 -- The world that a value of the code holds.
-use Rattle.std.specs.Prelude.{ℕ, is_some, nat_eq}
+use Rattle.std.specs.Prelude.{ℕ, List, is_some, nat_eq}
 use Rattle.std.specs.HashMap.{get}
 use Rattle.pim_world.specs.declared.kernel.KernelEvents.{KernelEvents}
 use Rattle.pim_world.specs.declared.world.World.{World}
@@ -27,3 +27,7 @@ world_of w = record {
   clock = w.clock;
   has_ended = w.has_ended;
 }
+
+-- the threads that the last line may have touched
+abbrev pub touched_of : World → List ℕ
+touched_of w = w.touched.items

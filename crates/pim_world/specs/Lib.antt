@@ -6,3 +6,4 @@ pub mod Held
 pub mod Texts
 pub mod Steady
 pub mod Laws
+pub mod Touching

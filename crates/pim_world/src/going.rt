@@ -1,10 +1,12 @@
 //! What a line changes.
 
-ghost use Rattle.std.specs.Prelude.{◌≡◌, ◌≤◌, length, IfOk};
+ghost use Rattle.std.specs.Prelude.{◌≡◌, ◌≤◌, false, [], length, IfOk};
 ghost use Rattle.pim_base.specs.State.{IsTask};
+ghost use Rattle.pim_waits.specs.Touched.{Touches};
+ghost use Rattle.pim_world.specs.Touching.{declares};
 ghost use Rattle.pim_world.specs.After.{after, after_thread, after_mutex, with_thread_number, with_mutex_number, with_object, after_what, at_time, locked, unlocked, with_state};
 ghost use Rattle.pim_fact_lines.specs.declared.line.Line.TheVariants as lines;
-ghost use Rattle.pim_world.specs.Held.{world_of};
+ghost use Rattle.pim_world.specs.Held.{world_of, touched_of};
 
 use crate::kernel::Off;
 use crate::world::World;
@@ -13,13 +15,16 @@ use pim_waits::{MutexPlace, ThreadPlace, put};
 use std::alloc::{AllocError, Global};
 
 impl World {
-    /// Goes on by a line that may follow.
+    /// Goes on by a line that may follow, and keeps which threads it touched.
     ///
     /// # Errors
     ///
     /// Returns `AllocError` if out of memory.
+    #[tactic(auto, using(crate::proofs::Touching::touches_none))]
     pub fn go(&mut self, alloc: Global, line: &Line) -> Result<(), AllocError>
-        ensures { IfOk result (λ _. world_of self.new ≡ after (world_of self.old) line.now) }
+        ensures world { IfOk result (λ _. world_of self.new ≡ after (world_of self.old) line.now) }
+        ensures touched { IfOk result (λ _. declares line.now ≡ false
+            → Touches (world_of self.old).state (world_of self.new).state [] (touched_of self.new)) }
     {
         self.touched.clear();
         match line {
@@ -43,8 +48,10 @@ impl World {
         }
     }
 
+    #[tactic(auto, using(crate::proofs::Touching::touches_none))]
     fn go_by_fact(&mut self, time: u64, thread: ThreadNo, what: &What) -> Result<(), AllocError>
-        ensures { IfOk result (λ _. world_of self.new ≡ after (world_of self.old) (lines.Fact time thread what.now)) }
+        ensures world { IfOk result (λ _. world_of self.new ≡ after (world_of self.old) (lines.Fact time thread what.now)) }
+        ensures touched { IfOk result (λ _. Touches (world_of self.old).state (world_of self.new).state (touched_of self.old) (touched_of self.new)) }
     {
         let place = self.thread(thread);
         self.pass(time);
@@ -56,14 +63,16 @@ impl World {
     }
 
     fn lose(&mut self, alloc: Global, time: u64)
-        ensures { world_of self.new ≡ after (world_of self.old) (lines.Lost time) }
+        ensures world { world_of self.new ≡ after (world_of self.old) (lines.Lost time) }
+        ensures touched { touched_of self.new ≡ touched_of self.old }
     {
         self.pass(time);
         self.kernel.forget(alloc);
     }
 
     fn end(&mut self, time: u64)
-        ensures { world_of self.new ≡ after (world_of self.old) (lines.End time) }
+        ensures world { world_of self.new ≡ after (world_of self.old) (lines.End time) }
+        ensures touched { touched_of self.new ≡ touched_of self.old }
     {
         self.pass(time);
         self.has_ended = true;
@@ -71,7 +80,8 @@ impl World {
 
     /// The clock goes on to a time, and never back.
     fn pass(&mut self, time: u64)
-        ensures { world_of self.new ≡ at_time time (world_of self.old) }
+        ensures world { world_of self.new ≡ at_time time (world_of self.old) }
+        ensures touched { touched_of self.new ≡ touched_of self.old }
     {
         if self.clock < time {
             self.clock = time;
@@ -137,7 +147,8 @@ impl World {
     }
 
     fn add_object(&mut self, number: ObjectNo) -> Result<(), AllocError>
-        ensures { IfOk result (λ _. world_of self.new ≡ with_object number (world_of self.old)) }
+        ensures world { IfOk result (λ _. world_of self.new ≡ with_object number (world_of self.old)) }
+        ensures touched { touched_of self.new ≡ touched_of self.old }
     {
         match self.objects.insert(number.0, ()) {
             Ok(_) => Ok(()),
@@ -146,9 +157,11 @@ impl World {
     }
 
     /// This happens to a thread.
+    #[tactic(auto, using(crate::proofs::Touching::touches_none))]
     fn happen(&mut self, thread: ThreadPlace, what: &What) -> Result<(), AllocError>
         requires { IsTask (world_of self.old).state thread }
-        ensures { IfOk result (λ _. world_of self.new ≡ after_what what.now thread (world_of self.old)) }
+        ensures world { IfOk result (λ _. world_of self.new ≡ after_what what.now thread (world_of self.old)) }
+        ensures touched { IfOk result (λ _. Touches (world_of self.old).state (world_of self.new).state (touched_of self.old) (touched_of self.new)) }
     {
         match what {
             What::Granted(number) => {
@@ -197,8 +210,9 @@ impl World {
     /// Returns `AllocError` if it was locked 2^64 - 1 times.
     fn lock(&mut self, thread: ThreadPlace, mutex: MutexPlace) -> Result<(), AllocError>
         requires { IsTask (world_of self.old).state thread }
-        ensures { IfOk result (λ _. let w = world_of self.old in
+        ensures world { IfOk result (λ _. let w = world_of self.old in
             world_of self.new ≡ with_state w (locked w.state thread mutex)) }
+        ensures touched { IfOk result (λ _. Touches (world_of self.old).state (world_of self.new).state (touched_of self.old) (touched_of self.new)) }
     {
         if self.waits.owner(mutex).is_none() {
             self.waits
@@ -215,8 +229,9 @@ impl World {
 
     /// The owner of a mutex unlocks it once.
     fn unlock(&mut self, mutex: MutexPlace) -> Result<(), AllocError>
-        ensures { IfOk result (λ _. let w = world_of self.old in
+        ensures world { IfOk result (λ _. let w = world_of self.old in
             world_of self.new ≡ with_state w (unlocked w.state mutex)) }
+        ensures touched { IfOk result (λ _. Touches (world_of self.old).state (world_of self.new).state (touched_of self.old) (touched_of self.new)) }
     {
         let count = self.waits.count(mutex);
         if count > 1 {

@@ -1,6 +1,6 @@
 //! What is known of the kernel, and how it changes.
 
-ghost use Rattle.std.specs.Prelude.{◌≡◌, ℕ, IfOk, None, false, is_some, length, unwrap_or};
+ghost use Rattle.std.specs.Prelude.{◌≡◌, ℕ, IfOk, None, true, false, is_some, length, unwrap_or};
 ghost use Rattle.pim_base.specs.Lists.{nth};
 ghost use Rattle.pim_world.specs.Worlds.{no_kernel, last_cpu, is_on};
 ghost use Rattle.pim_world.specs.After.{more_kernel, put_on, put_off, forgotten, with_runs};
@@ -52,6 +52,13 @@ impl KernelEvents {
         ensures { result ≡ false → (t : ℕ) → unwrap_or (nth (kernel_of self.now).runs t) None ≡ None }
     {
         self.is_run
+    }
+
+    /// Returns `true` only if no thread is on a CPU, as far as is known.
+    pub fn is_idle(&self) -> bool
+        ensures { result ≡ true → (cpu : ℕ) → (kernel_of self.now).on cpu ≡ None }
+    {
+        self.on.len() == 0
     }
 
     /// Returns how a thread is off a CPU, or `None` if it isn't, as far as is known.

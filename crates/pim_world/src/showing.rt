@@ -4,7 +4,7 @@ ghost use Rattle.std.specs.Prelude.{◌≡◌, unwrap_or};
 ghost use Rattle.pim_base.specs.Lists.{nth};
 ghost use Rattle.pim_base.specs.State.{base_of};
 ghost use Rattle.pim_waits.specs.Waiting.{gets};
-ghost use Rattle.pim_world.specs.Held.{world_of, kernel_of};
+ghost use Rattle.pim_world.specs.Held.{world_of, kernel_of, touched_of};
 
 use crate::kernel::KernelEvents;
 use crate::world::World;
@@ -70,7 +70,9 @@ impl World {
     }
 
     /// Returns the threads that the last line may have touched.
-    pub fn touched(&self) -> &[ThreadPlace] {
+    pub fn touched(&self) -> &[ThreadPlace]
+        ensures { result.now ≡ touched_of self.now }
+    {
         &self.touched
     }
 }

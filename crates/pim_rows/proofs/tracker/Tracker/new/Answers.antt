@@ -6,12 +6,14 @@ use Rattle.pim_rows.specs.Kept.{kept_of}
 use Rattle.pim_rows.proofs.Starting.{nothing_waits, nothing_is_blocked, nothing_is_owned, no_starts}
 use Rattle.pim_rows.proofs.Appended.{puts_none}
 use Rattle.pim_rows.proofs.RunChanges.{IsEven-first}
+use Rattle.pim_rows.proofs.SameStanding.{AreWaits-first}
 use Rattle.pim_rows.proofs.tracker.Tracker.new.Goals as goal
 
 pub returns : goal.returns
 returns c = record {
   world = c.new.ensures;
   even = IsEven-first;
+  waiting = AreWaits-first;
   number = refl;
   starts = no_starts waits wait_start (kept_of c.new-2.result.starts) nothing_waits;
   opens = c.new-3.ensures;

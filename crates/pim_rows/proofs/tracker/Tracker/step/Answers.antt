@@ -1,9 +1,11 @@
-use Rattle.std.proofs.Common.{◌≡◌, ◌+◌, ℕ, sym, ◌∙◌, ap, subst, None, Option, List, []}
+use Rattle.std.proofs.Common.{◌≡◌, ◌+◌, ℕ, false, sym, ◌∙◌, ap, subst, None, Option, List, []}
 use Rattle.pim_waits.specs.Waiting.{gets}
 use Rattle.pim_world.specs.Worlds.{World}
 use Rattle.pim_world.specs.After.{after}
-use Rattle.pim_world.specs.Held.{world_of}
-use Rattle.pim_rows.specs.AllOpen.{AreUntil, ended_times}
+use Rattle.pim_world.specs.Held.{world_of, touched_of}
+use Rattle.pim_world.specs.Touching.{declares}
+use Rattle.pim_waits.specs.Touched.{Touches}
+use Rattle.pim_rows.specs.AllOpen.{AreUntil, AreSame, ended_times}
 use Rattle.pim_rows.specs.Before.{IsBefore}
 use Rattle.pim_rows.specs.Found.{actor, mutex_of, asked_mutex, of_fact}
 use Rattle.pim_rows.specs.Moments.{now, followed_by}
@@ -13,6 +15,7 @@ use Rattle.pim_rows.specs.Puts.{Puts}
 use Rattle.pim_rows.specs.Rows.{ended_rows}
 use Rattle.pim_rows.proofs.Opening.{until_after}
 use Rattle.pim_rows.proofs.RunChanges.{IsEven-after, are_changes}
+use Rattle.pim_rows.proofs.SameStanding.{AreWaits-after}
 use Rattle.pim_rows.proofs.Stepping.{written_after}
 use Rattle.pim_rows.proofs.tracker.Tracker.step.Goals as goal
 
@@ -40,7 +43,13 @@ returns c ms tracks may =
     let P : World → Type 0 = λ w. IsBefore c.of-was.result w c.actor.result c.locked_mutex.result in
     subst P tracks.world c.of-was.ensures in
     let off = c.in_ok-go.ensures.off ms tracks.world thread was.off tracks.off_times in
-    let opens = c.in_ok-times.ensures.kept ms l w thread was.waits tracks.opens in
+    let touches : declares l ≡ false → Touches (now ms).state (world_of c.go.new.world).state [] (touched_of c.go.new.world) =
+    λ d. let P : World → Type 0 = λ v. Touches v.state (world_of c.go.new.world).state [] (touched_of c.go.new.world) in
+    subst P tracks.world (c.in_ok-go.ensures.touched d) in
+    let same : AreSame (now ms) (after (now ms) l) c.deref.result.now =
+    let P : List ℕ → Type 0 = λ ts. AreSame (now ms) (after (now ms) l) ts in
+    subst P (sym c.deref.ensures.value) (c.in_ok-affected.ensures (now ms) w tracks.waiting touches) in
+    let opens = c.in_ok-times.ensures.kept ms l w thread was.waits same tracks.opens in
     let times = c.in_ok-times.ensures.ended ms l w thread was.waits tracks.opens in
     let put =
     c.in_ok-ended.ensures ms w n thread (λ t e. times ∙ ap (λ (o : Option ℕ). ended_times o ms l) e) may tracks.starts
@@ -51,16 +60,17 @@ returns c ms tracks may =
     subst P tracks.world (c.in_ok-levels.ensures (subst E (sym tracks.world) tracks.even)) in
     let changed : AreChanges (now ms) (after (now ms) l) before.threads c.in_ok-changes.changes.items =
     are_changes (now ms) (world_of c.go.new.world) l c.in_ok-levels.levels.items c.in_ok-changes.changes.items w before
-    (λ w ts e. c.in_ok-changes.ensures w ts (c.deref.ensures.value ∙ e)) in
-    let changes : AreChanges (now ms) (after (now ms) l) before.threads c.deref-2.result.now =
+    (λ w ts e. c.in_ok-changes.ensures w ts (c.deref-2.ensures.value ∙ e)) in
+    let changes : AreChanges (now ms) (after (now ms) l) before.threads c.deref-3.result.now =
     let P : List RunChange → Type 0 = λ cs. AreChanges (now ms) (after (now ms) l) before.threads cs in
-    subst P (sym c.deref-2.ensures.value) changed in
+    subst P (sym c.deref-3.ensures.value) changed in
     let grants =
     c.in_ok-follow-2.ensures ms l w n mutex was.owned
     (λ m e. c.off_of_owner-off.ensures (followed_by ms l) m e w off) tracks.grants in
     record {
       world = w;
       even = IsEven-after (now ms) l tracks.even;
+      waiting = AreWaits-after (now ms) l tracks.waiting;
       number = n;
       starts =
           c.in_ok-follow-4.ensures ms l w n thread was.waits
