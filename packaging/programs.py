@@ -5,7 +5,7 @@ import version
 from files import ROOT, Fault, copy, filled, highest, kit, run, tracked, write
 
 # The programs of Rattle, and their crates.
-PROGRAMS = {"pim": "pim", "pim-findings": "pim_facts_program"}
+PROGRAMS = {"pim": "pim", "pim-findings": "pim_findings"}
 # Those of other languages. Links at the top lead to those of the folder report.
 SCRIPTS = ("record/pim-record", "record/pim-log", "report/pim-report", "report/pim-picture",
            "conform/pim-conform")

@@ -8,7 +8,7 @@ from programs import glibc_of
 # What users have of a crate and of those that it stands on.
 TOPS = {
     "pim": ["pim"],
-    "pim_facts_program": ["pim-findings"],
+    "pim_findings": ["pim-findings"],
     "pim_c": ["libpim", "the page"],
     "pim_web": ["the page"],
 }

@@ -6,7 +6,7 @@ ghost use Rattle.pim_world.specs.declared.fault.Why.{Why};
 ghost use Rattle.pim_world.specs.Texts.{IsFirstInvalid};
 ghost use Rattle.pim_rows.specs.Findings.{AreFound};
 ghost use Rattle.pim_page.specs.Ends.{Happened, Fails};
-ghost use Rattle.pim_facts_program.specs.Writing.{Finds, FindsFront};
+ghost use Rattle.pim_findings.specs.Writing.{Finds, FindsFront};
 
 use crate::fault::Fault;
 use crate::transfer::{read_all, write_all};

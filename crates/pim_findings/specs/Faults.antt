@@ -1,8 +1,8 @@
 -- Which faults a call can have.
 use Rattle.pim_world.specs.declared.fault.FactsFault.{FactsFault}
 use Rattle.pim_world.specs.declared.fault.FactsFault.TheVariants as of_text
-use Rattle.pim_facts_program.specs.declared.fault.Fault.{Fault}
-use Rattle.pim_facts_program.specs.declared.fault.Fault.TheVariants as faults
+use Rattle.pim_findings.specs.declared.fault.Fault.{Fault}
+use Rattle.pim_findings.specs.declared.fault.Fault.TheVariants as faults
 
 -- the fault of this crate for that of the text
 abbrev pub fault_of : FactsFault → Fault

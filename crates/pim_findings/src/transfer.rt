@@ -2,7 +2,7 @@
 
 ghost use Rattle.std.specs.Prelude.{◌≡◌, ◌⊎◌, [], Some, IfOk, IfErr, IfSome, Err};
 ghost use Rattle.pim_page.specs.Ends.{Happened, ReadsAll};
-ghost use Rattle.pim_facts_program.specs.Writing.{Writes};
+ghost use Rattle.pim_findings.specs.Writing.{Writes};
 
 use crate::fault::Fault;
 use pim_page::{Sink, Source};

@@ -1,7 +1,7 @@
 use Rattle.std.proofs.Common.{subst}
 use Rattle.pim_page.specs.Ends.{Happened}
 use Rattle.pim_page.proofs.EndsLemmas.{raised}
-use Rattle.pim_facts_program.proofs.transfer.read_all.Goals as goal
+use Rattle.pim_findings.proofs.transfer.read_all.Goals as goal
 
 pub returns-in_default-clause-read : goal.returns-in_default-clause-read
 returns-in_default-clause-read g c = λ e.

@@ -5,8 +5,8 @@ use Rattle.pim_fact_lines.specs.Texts.{lines_of}
 use Rattle.pim_world.specs.Texts.{Says}
 use Rattle.pim_rows.specs.Rows.{rows_of, moments_of, status_of, text_of}
 use Rattle.pim_page.specs.Ends.{Told, Appends, AppendsFront, Fails, Puts}
-use Rattle.pim_facts_program.specs.declared.fault.Fault.{Fault}
-use Rattle.pim_facts_program.specs.declared.fault.Fault.TheVariants as faults
+use Rattle.pim_findings.specs.declared.fault.Fault.{Fault}
+use Rattle.pim_findings.specs.declared.fault.Fault.TheVariants as faults
 
 -- a prefix of the bytes was appended before a write failed
 pub record Stops (old new : Told) (bytes : List ℕ) (fault : Fault) : Type 0 where

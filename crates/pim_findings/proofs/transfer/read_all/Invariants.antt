@@ -1,6 +1,6 @@
 use Rattle.std.proofs.Common.{◌≡◌, ◌-◌, ◌^◌, vec_len}
 use Rattle.pim_page.specs.Ends.{TakesOff}
-use Rattle.pim_facts_program.proofs.transfer.read_all.Given as goal
+use Rattle.pim_findings.proofs.transfer.read_all.Given as goal
 
 -- what was taken off so far is in the bytes, and nothing failed
 abbrev pub invariant-loop-count : goal.invariant-loop-count

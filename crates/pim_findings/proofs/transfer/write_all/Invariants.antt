@@ -1,6 +1,6 @@
 use Rattle.std.proofs.Common.{length}
 use Rattle.pim_page.specs.Ends.{Puts}
-use Rattle.pim_facts_program.proofs.transfer.write_all.Given as goal
+use Rattle.pim_findings.proofs.transfer.write_all.Given as goal
 
 -- all but the rest is written, and nothing failed
 abbrev pub invariant-loop-rest : goal.invariant-loop-rest

@@ -1,8 +1,8 @@
 //! Why a text of facts has no rows.
 
 ghost use Rattle.std.specs.Prelude.{◌≡◌};
-ghost use Rattle.pim_facts_program.specs.declared.fault.Fault.TheVariants.{Memory};
-ghost use Rattle.pim_facts_program.specs.Faults.{fault_of};
+ghost use Rattle.pim_findings.specs.declared.fault.Fault.TheVariants.{Memory};
+ghost use Rattle.pim_findings.specs.Faults.{fault_of};
 
 use pim_world::{FactsFault, Why};
 use std::alloc::AllocError;
