@@ -105,12 +105,13 @@ class Tracks:
         groups = [(pid, place) for pid, place, _ in order["process_sort_index"]]
         faults = [f"group {pid} at {at}" for pid, at in groups if at != pid]
         tracks = sorted(order["thread_sort_index"])
-        if tracks != sorted(tracks, key=lambda it: (it[0], it[2])) or len({it[:2] for it in tracks}) < len(tracks):
+        are_apart = len({it[:2] for it in tracks}) == len(tracks)
+        if not are_apart or tracks != sorted(tracks, key=lambda it: (it[0], it[2])):
             faults.append(f"tracks {tracks}")
         return faults
 
     def wrong_arguments(self):
-        """Returns the slices that say another owner than who owns, or a base that isn't below the boost."""
+        """Returns the slices with another owner than who owns, or a base not below the boost."""
         ends = [sorted(ends, key=lambda it: it["ph"] == "f") for ends in self.flows.values()]
         awaited = {(first["pid"], first["tid"], first["ts"]): last["pid"] for first, last in ends}
         faults = []
@@ -119,8 +120,8 @@ class Tracks:
                 prios = [value for ts, value in self.counters[pid] if ts <= it["ts"]]
                 owner = pid if it["name"].startswith("owns ") else awaited.get((pid, tid, it["ts"]))
                 is_boost = "base" in it["args"]
-                wrong = not it["args"]["base"] < prios[-1] if is_boost else it["args"]["owner"] != owner
-                faults += [f"{it['name']} with {it['args']}"] if wrong else []
+                right = it["args"]["base"] < prios[-1] if is_boost else it["args"]["owner"] == owner
+                faults += [] if right else [f"{it['name']} with {it['args']}"]
         return faults
 
     def at(self, task, step):
