@@ -47,9 +47,10 @@ that is.
   -h, --help           this text
       --version        the version
 
-Status: 1 if a thread was held up and nothing bounded it, there is a deadlock, or the kernel ran a
-thread for more than 50 us at another level than its mutexes give; 0 if not; 2 after a fault. With
---thread, --mutex and --since it is that of what is shown.
+Status: 1 if a thread was held up and nothing bounded it, there is a deadlock, the kernel ran a
+thread for more than 50 us at another level than its mutexes give, or a hundredth or more of the
+events is missing; 0 if not; 2 after a fault. With --thread, --mutex and --since it is that of what
+is shown.
 
     $ pim-record -o run ./controller
     $ pim-report run                       # the text

@@ -100,6 +100,16 @@ class Facts:
             if words[1] == b"lost":
                 self.lost.append(Lost(number, int(words[0]), int(words[2])))
 
+    @property
+    def missing(self):
+        """Returns how many events are missing."""
+        return sum(one.count for one in self.lost)
+
+    @property
+    def missing_percent(self):
+        """Returns how many in a hundred events are missing, rounded down."""
+        return 100 * self.missing // max(1, self.missing + self.count - len(self.lost))
+
     def level(self, thread, line):
         """Returns the level that a thread has after a line."""
         return last_of(self.levels.get(thread, ()), line, self.threads[thread].level)

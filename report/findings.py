@@ -26,13 +26,18 @@ class Findings:
         return [one for one in self.all if one.kind in kinds]
 
     @property
+    def lacks_much(self):
+        """Returns whether so much is missing that nothing can be taken for good news."""
+        return self.facts.missing_percent >= 1
+
+    @property
     def status(self):
-        return 1 if self.of(*BAD) else 0
+        return 1 if self.of(*BAD) or self.lacks_much else 0
 
     @property
     def state(self):
         """Returns how bad it is, in a word."""
-        return "bad" if self.of(*BAD) else "look" if self.of(*LOOK) else "good"
+        return "bad" if self.status else "look" if self.of(*LOOK) else "good"
 
     def size(self):
         """Returns what was recorded, in a line."""
@@ -62,9 +67,9 @@ class Findings:
         """Returns what this report can't say, in sentences."""
         said = [f"The recorder couldn't see: {' '.join(words)}." for words in self.facts.unseen]
         if self.facts.lost:
-            lost, first = sum(one.count for one in self.facts.lost), self.facts.lost[0]
+            lost = self.facts.missing
             said.append(f"{count(lost, 'event')} {'was' if lost == 1 else 'were'} lost, from"
-                        f" {moment(first.time)} on: what happened then isn't known.")
+                        f" {moment(self.facts.lost[0].time)} on: what happened then isn't known.")
         if not self.facts.has_end:
             said.append("The recording has no end: its last time counts as the end.")
         if not self.facts.has_switches():

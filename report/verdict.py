@@ -9,6 +9,17 @@ class Verdict:
         self.facts, self.recording = findings.facts, findings.recording
 
     def sentences(self):
+        return [*self.of_loss(), *self.of_findings()]
+
+    def of_loss(self):
+        """Says first that much is missing, and what helps."""
+        if not self.findings.lacks_much:
+            return []
+        return [f"{self.facts.missing_percent} % of the events are missing, from"
+                f" {moment(self.facts.lost[0].time)} on: record with a greater --size, or with"
+                " --last."]
+
+    def of_findings(self):
         found = self.findings
         dead, late, ran = found.of("deadlock"), found.of("late"), found.of("ran")
         if dead:
@@ -103,13 +114,13 @@ class Verdict:
 
     def of_calm(self, look):
         waits = self.recording.rows.waits
+        calm = "In the rest" if self.findings.lacks_much else "Nothing to worry about:"
         if look:
             lines = ["No priority inversion, and no deadlock."]
         elif not waits:
-            return ["Nothing to worry about: no thread waited for a mutex."]
+            return [f"{calm} no thread waited for a mutex."]
         else:
-            lines = ["Nothing to worry about: no thread was held up for longer than a protocol"
-                     " allows."]
+            lines = [f"{calm} no thread was held up for longer than a protocol allows."]
         bounded = self.findings.of("bounded")
         if bounded:
             worst = bounded[0].waits[0]

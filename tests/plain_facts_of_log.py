@@ -23,7 +23,6 @@ KINDS = {2: "rwlock", 3: "rwlock", 6: "condition"}
 NUMBERED, UNNUMBERED = (re.compile(start + rb" 0x([0-9a-f]{1,16}) (.*)", re.DOTALL)
                         for start in (rb"([1-9][0-9]{0,3})", rb"(-)"))
 UNSEEN = (("left_out", "call", "that the recorder couldn't see whole"),
-          ("lost", "record", "for which the log had no room"),
           ("dropped", "early record", "that {} dropped for later ones"),
           ("unplaced", "record", "for whose {} the log had no room"))
 UNKNOWN_OF_MUTEXES = ((1, "kinds of mutexes"), (2, "ceilings of mutexes"),
@@ -592,6 +591,9 @@ class Writer:
         self.now = self.since(self.ended)
         for thread in sorted(self.log.identity):
             self.catch_up(thread)
+        if self.whole.head.first_lost:
+            missing = self.whole.head.next_number - self.whole.head.first_lost
+            self.lines.append(f"{self.now} lost {min(missing, MOST_TIME)}")
         return [*self.lines, f"{self.now} end"]
 
 

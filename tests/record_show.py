@@ -70,6 +70,19 @@ def reported(release):
     check("three of many logs are named", None if is_named else f"{said} {files}")
 
 
+def full(release):
+    """A log that has no room for all says so, and so does the first line of the report."""
+    program = PROGRAMS / "pair", "30000", "2"
+    _, _, said, _ = release.record("-o", "run", "--size", "1", *program)
+    loss = r"pim-record: the log had no room for [1-9]\d* records: --size makes it larger, .*"
+    lines = said.splitlines()
+    check("a full log is said", None if re.fullmatch(loss, lines[0]) and len(lines) == 2 else said)
+    _, _, said, _ = release.record("--size", "1", *program)
+    lines = said.splitlines()
+    is_said = re.fullmatch(loss, lines[0]) and " % of the events are missing, from " in lines[1]
+    check("the report of a full log", None if is_said else said)
+
+
 def by_a_signal(release):
     """A program that a signal ends has a report, and pim-record ends by the signal, too."""
     status, _, said, _ = release.record("sh", "-c", "kill -9 $$")
@@ -131,7 +144,7 @@ def full_disk(release):
         return skip("a report on a full disk", "a small file system can't be mounted")
     try:
         status, _, said, _ = release.record(PROGRAMS / "pair", "30000", "2", cwd=disk)
-        is_said = "records for which the log had no room" in said
+        is_said = " % of the events are missing, from " in said
         why = difference((status, is_said), (0, True)) and f"{status} {said}"
         return check("a report on a full disk", why)
     finally:
@@ -140,7 +153,7 @@ def full_disk(release):
 
 def shown(folder):
     release = Release(folder)
-    for part in (reported, by_a_signal, found, named, full_disk, without_findings):
+    for part in (reported, full, by_a_signal, found, named, full_disk, without_findings):
         part(release)
 
 

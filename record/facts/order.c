@@ -315,6 +315,12 @@ static void put_loss(struct order *order, uint64_t count) {
     order->losses++;
 }
 
+/* Writes how many records are missing, if there was no room for one: it, and all after it. */
+static void put_missing(struct order *order) {
+    const struct header *header = &order->log->header;
+    if (header->first_lost) put_loss(order, header->next_number - header->first_lost);
+}
+
 /* A thread waits for a futex, unless it waits for something by the log. */
 static void wait_for_futex(struct order *order, uint32_t thread, uint32_t object) {
     catch_up(order, order->releases[thread]);
@@ -567,8 +573,6 @@ static void declare_unseen(struct order *order) {
     put_unknown(order, KNOWN_OWNER, "unseen requests for mutexes, whose owners weren't known");
     put_unseen(order, header->left_out, " call that the recorder couldn't see whole",
                " calls that the recorder couldn't see whole");
-    put_unseen(order, header->lost, " record for which the log had no room",
-               " records for which the log had no room");
     put_unseen(order, header->dropped, " early record that was dropped for later ones",
                " early records that were dropped for later ones");
     put_unseen(order, header->unplaced, " record for whose place the log had no room",
@@ -629,6 +633,7 @@ void write_facts(struct told *told, struct kernel *kernel, struct names *names,
     order.now = since_begin(told->log, told->log->ended);
     for (uint32_t i = 0; i < order.declared_count; i++)
         catch_up(&order, order.releases[order.declared[i]]);
+    put_missing(&order);
     text_time(text, order.now);
     text_word(text, " end");
     text_end(text);
