@@ -1,8 +1,9 @@
 """What of a recording is shown: by threads, by mutexes, and from a time on."""
+from program import Fault
 from rows_text import Rows
 
 
-class Unknown(Exception):
+class Unknown(Fault):
     """A name that no thread, or no mutex and no object, has."""
 
 

@@ -1,16 +1,13 @@
 """The arguments of pim-report, and what it does."""
 import argparse
-import gc
 import os
 import pathlib
-import signal
 import sys
 
-from choice import Unknown
 from facts_text import Facts
 from findings import Findings
 from other_programs import Progress, facts_of, rows_of
-from program import Fault, Parser, version
+from program import Fault, Parser, exit_with, version
 from recording import Recording
 from rows_text import Rows
 from terminal import MOST, Terminal
@@ -98,7 +95,18 @@ def arguments(words):
         raise Fault("--from and --to are those of a --trace")
     if since > until:
         raise Fault("--from is after --to")
+    spare_sources(given)
     return given
+
+
+def spare_sources(given):
+    """Refuses to write a file that is read."""
+    sources = [given.facts] if given.facts else [
+        f"{given.recording}{ending}" for ending in ("", ".kernel", ".places")]
+    there = [source for source in sources if os.path.exists(source)]
+    for file in filter(None, (given.html, given.perfetto, given.trace)):
+        if os.path.exists(file) and any(os.path.samefile(file, source) for source in there):
+            raise Fault(f"{file} is read, and so isn't written")
 
 
 def window_of(given):
@@ -111,6 +119,8 @@ def read(given):
     """Returns the bytes of the facts."""
     if given.recording:
         return facts_of(given.recording, given.converter)
+    if given.facts == "-" and not sys.stdin:
+        raise Fault("standard input: it is closed")
     try:
         if given.facts == "-":
             return sys.stdin.buffer.read()
@@ -133,11 +143,10 @@ def report(given):
             from perfetto import write_perfetto
             write_perfetto(given.perfetto, recording)
         text = text_of(given, findings)
+    write(text)
     if given.trace:
         from judged_trace import write_trace
         write_trace(given.trace, recording, *window_of(given), given.judge)
-    sys.stdout.write(text)
-    sys.stdout.flush()
     return findings.status
 
 
@@ -152,7 +161,8 @@ def text_of(given, findings):
 
 def write_page(given, findings):
     from html_page import page_of
-    title = pathlib.Path(given.recording or given.facts).name
+    name = os.fsencode(pathlib.Path(given.recording or given.facts).name)
+    title = name.decode(errors="replace")
     page = page_of("standard input" if given.facts == "-" else title, findings, given.all)
     try:
         pathlib.Path(given.html).write_text(page, encoding="utf-8")
@@ -160,31 +170,30 @@ def write_page(given, findings):
         raise Fault(f"{given.html}: {fault.strerror}") from fault
 
 
+def write(text):
+    """Writes to standard output. If nobody reads, that isn't worth a line."""
+    try:
+        sys.stdout.write(text)
+        sys.stdout.flush()
+    except OSError as fault:
+        # What is left to write goes nowhere.
+        os.dup2(os.open(os.devnull, os.O_WRONLY), sys.stdout.fileno())
+        is_left = isinstance(fault, BrokenPipeError)
+        raise Fault("" if is_left else f"standard output: {fault.strerror}") from fault
+
+
 def answer(words):
     """Returns the status."""
+    if not sys.stdout:
+        raise Fault("standard output: it is closed")
     if any(word in ("-h", "--help") for word in words):
-        sys.stdout.write(HELP)
+        write(HELP)
         return 0
     if "--version" in words:
-        print(f"pim-report {version()}")
+        write(f"pim-report {version()}\n")
         return 0
     return report(arguments(words))
 
 
 def main():
-    signal.signal(signal.SIGINT, signal.SIG_DFL)
-    gc.disable()  # what is read is kept: looking for garbage would take a third of the time
-    try:
-        status = answer(sys.argv[1:])
-        sys.stdout.flush()
-    except (Fault, Unknown) as fault:
-        status = 2
-        if str(fault):
-            print(f"pim-report: {fault}", file=sys.stderr)
-    except OSError as fault:
-        # What is left to write goes nowhere. If nobody reads, that isn't worth a line.
-        os.dup2(os.open(os.devnull, os.O_WRONLY), sys.stdout.fileno())
-        if not isinstance(fault, BrokenPipeError):
-            print(f"pim-report: standard output: {fault.strerror}", file=sys.stderr)
-        status = 2
-    sys.exit(status)
+    exit_with(answer)

@@ -105,9 +105,12 @@ class OtherFindings:
             kind = self.facts.objects[group[0].object].kind
             by_lower = [wait for wait in group if wait.by and wait.by_level < wait.level]
             # A thread that waits for the end of another one has no deadline meanwhile.
-            is_look = bool(by_lower) and kind != "thread"
-            group = sorted(by_lower if is_look else group, key=lambda wait: -wait.lasted)
-            yield self.other(group, what, is_look)
+            look = by_lower if kind != "thread" else []
+            lines = {wait.line for wait in look}
+            others = [wait for wait in group if wait.line not in lines]
+            for part, is_look in ((look, True), (others, False)):
+                if part:
+                    yield self.other(sorted(part, key=lambda wait: -wait.lasted), what, is_look)
 
     def has_real_time(self):
         """Returns whether a thread that waited, or owned a mutex, was a real-time one then."""

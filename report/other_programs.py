@@ -25,8 +25,7 @@ class Progress:
     def run(self):
         wait = PATIENCE
         while not self.is_over.wait(wait):
-            sys.stderr.write(f"\r{NAME}: {self.what}, {self.seconds} s")
-            sys.stderr.flush()
+            say(f"\r{NAME}: {self.what}, {self.seconds} s")
             self.seconds, wait = self.seconds + PERIOD, PERIOD
 
     def __enter__(self):
@@ -42,8 +41,7 @@ class Progress:
 
     def clear(self):
         if self.seconds > PATIENCE:
-            sys.stderr.write("\r\033[K")
-            sys.stderr.flush()
+            say("\r\033[K")
 
     def pass_on(self, line):
         """Writes what another program says, in place of what is shown. It speaks for pim."""
@@ -51,10 +49,21 @@ class Progress:
         say(f"{NAME}{line[3:]}" if line.startswith("pim: ") else line)
 
 
+def words_of(given, option):
+    """Returns the words of a command, as a shell has them."""
+    try:
+        words = shlex.split(given)
+    except ValueError:  # a quote that isn't closed
+        words = []
+    if not words:
+        raise Fault(f"{option}: '{given}' isn't a command")
+    return words
+
+
 def command_of(name, given, option):
     """Returns the words of a command that is given by an option, or found."""
     if given:
-        return shlex.split(given)
+        return words_of(given, option)
     for folder in FOLDERS:
         if (folder / name).is_file() and os.access(folder / name, os.X_OK):
             return [str(folder / name)]
@@ -96,7 +105,7 @@ def run(command, what, data=None):
 
 def facts_of(recording, given):
     """Returns the facts of a recording, which pim-facts makes."""
-    command = [*command_of("pim-facts", given, "--converter"), recording]
+    command = [*command_of("pim-facts", given, "--converter"), "--", recording]
     status, out, has_said = run(command, "reading the recording")
     if status:
         raise Fault("" if has_said else f"{command[0]} made no facts of {recording}")

@@ -1,14 +1,12 @@
 """The arguments of pim-picture, and what it does."""
 import argparse
-import gc
 import math
 import os
 import shutil
-import signal
 import sys
 
 from other_programs import command_of
-from program import NAME, Fault, Parser, say, version
+from program import Fault, Parser, exit_with, version
 from trace_report import JudgedTrace, Window
 
 HELP = r"""Draw a trace: which task executes at which priority after each step, and why
@@ -116,6 +114,8 @@ def parts_of(trace, given):
 
 def answer(words):
     """Writes what is asked for. Returns the status."""
+    if not sys.stdin or not sys.stdout:
+        raise Fault("write" if sys.stdin else "read")
     if any(word in ("-h", "--help") for word in words):
         write([HELP])
         return 0
@@ -129,18 +129,4 @@ def answer(words):
 
 
 def main():
-    signal.signal(signal.SIGINT, signal.SIG_DFL)
-    gc.disable()  # what is read is kept: looking for garbage would take a third of the time
-    status, why = 2, ""
-    sys.stderr = sys.stderr or open(os.devnull, "w")  # it is closed
-    try:
-        if not sys.stdin or not sys.stdout:
-            raise Fault("write" if sys.stdin else "read")
-        status = answer(sys.argv[1:])
-    except Fault as fault:
-        why = str(fault)
-    except MemoryError:
-        why = "memory"
-    if why:
-        say(f"{NAME}: {why}\n")
-    sys.exit(status)
+    exit_with(answer)

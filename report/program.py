@@ -1,7 +1,9 @@
 """What pim-report and pim-picture share: their name and version, and how they report a fault."""
 import argparse
+import gc
 import os
 import pathlib
+import signal
 import sys
 
 NAME = pathlib.Path(sys.argv[0]).name
@@ -30,3 +32,20 @@ def version():
     """Returns the version, which is in a file next to the program or above it."""
     found = [root / "VERSION" for root in ROOTS if (root / "VERSION").is_file()]
     return found[0].read_text().strip() if found else "unknown"
+
+
+def exit_with(answer):
+    """Exits with the status that the arguments are answered with, or with 2 after a fault."""
+    signal.signal(signal.SIGINT, signal.SIG_DFL)
+    gc.disable()  # what is read is kept: looking for garbage would take a third of the time
+    sys.stderr = sys.stderr or open(os.devnull, "w")  # it is closed
+    status, why = 2, ""
+    try:
+        status = answer(sys.argv[1:])
+    except Fault as fault:
+        why = str(fault)
+    except MemoryError:
+        why = "memory"
+    if why:
+        say(f"{NAME}: {why}\n")
+    sys.exit(status)

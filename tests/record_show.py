@@ -64,6 +64,10 @@ def reported(release):
     wanted = f"pim-record: programs that it started have logs of their own: {', '.join(others)}"
     is_named = wanted in lines and len(others) == 1
     check("the logs of programs that it started are named", None if is_named else said)
+    stale = f"echo stale > run.100; {PROGRAMS}/pair 9 > /dev/null"
+    _, _, said, files = release.record("-o", "run", "sh", "-c", stale)
+    is_named = "run.100" in files and "run.100" not in said and "logs of their own: run." in said
+    check("another file isn't named as a log", None if is_named else said)
     many = "for i in 1 2 3 4 5; do " + f"{PROGRAMS}/pair 9 > /dev/null; done"
     _, _, said, files = release.record("-o", "run", "sh", "-c", many)
     is_named = f"own: {', '.join(files[1:4])} and 2 more\n" in said and len(files) == 6

@@ -211,9 +211,9 @@ def commands(folder, pim, run):
             ("sh -c 'exit 5'", "sh judged nothing, with status 5"),
             ("/nowhere", "/nowhere: No such file or directory")):
         check(f"--judge {judge[-16:]}",
-              difference(said(judge=judge), (2, False, f"pim-report: {why}", None)))
+              difference(said(judge=judge), (2, True, f"pim-report: {why}", None)))
     why = "pim-report: /no/where: No such file or directory"
-    check("a trace that can't be written", difference(said(to="/no/where"), (2, False, why, None)))
+    check("a trace that can't be written", difference(said(to="/no/where"), (2, True, why, None)))
 
 
 # ---- random facts, by the plain world

@@ -57,9 +57,13 @@ static const char *mapped(const char *path, bool may_lack, size_t *length) {
     if (file < 0 || fstat(file, &status) != 0) refuse(path, "%s", strerror(errno));
     if (!S_ISREG(status.st_mode)) refuse(path, "it isn't a file");
     *length = (size_t)status.st_size;
-    if (*length && is_in_memory(file)) return copied(path, file, *length);
-    void *bytes = *length ? mmap(NULL, *length, PROT_READ, MAP_PRIVATE, file, 0) : (void *)"";
-    if (bytes == MAP_FAILED) refuse(path, "%s", strerror(errno));
+    const void *bytes = "";
+    if (*length && is_in_memory(file)) {
+        bytes = copied(path, file, *length);
+    } else if (*length) {
+        bytes = mmap(NULL, *length, PROT_READ, MAP_PRIVATE, file, 0);
+        if (bytes == MAP_FAILED) refuse(path, "%s", strerror(errno));
+    }
     close(file);
     return bytes;
 }

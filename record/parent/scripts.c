@@ -19,6 +19,7 @@ static _Noreturn void be_script(const char *path, const char *first, const char 
     dup2(nowhere, STDIN_FILENO);
     if (is_quiet) dup2(nowhere, STDERR_FILENO);
     dup2(STDERR_FILENO, STDOUT_FILENO);
+    if (nowhere > STDERR_FILENO) close(nowhere);
     for (size_t i = 0; i < sizeof stops / sizeof *stops; i++) signal(stops[i], SIG_IGN);
     sigemptyset(&none);
     sigprocmask(SIG_SETMASK, &none, NULL);
