@@ -31,9 +31,10 @@ def without_places(paths):
 
 
 def without_end(said):
-    """Returns what pim-record says, but for how to see the report, and which programs have logs of their own."""
-    return re.sub(r"(?m)^pim-record: (.* is recorded; .*pim-report .* says who was held up|programs that it started .*)\n",
-                  "", said)
+    """Returns what pim-record says, but for a loss, how to see the report, and which programs have logs of their own."""
+    ends = "|".join((".* is recorded; .*pim-report .* says who was held up", "programs that it started .*",
+                     "the log had no room for .*"))
+    return re.sub(rf"(?m)^pim-record: ({ends})\n", "", said)
 
 
 def version_of(rows, places):
