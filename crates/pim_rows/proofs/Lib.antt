@@ -32,3 +32,5 @@ pub mod SectionTimes
 pub mod DeadlockRows
 pub mod SectionOwners
 pub mod SameStanding
+pub mod KeptLevels
+pub mod Calm

@@ -1,5 +1,5 @@
 -- Waits that are kept by place, as they go on one after another, and by a line.
-use Rattle.std.proofs.Common.{◌≡◌, ◌≢◌, ◌≤◌, ◌<◌, ◌+◌, ◌-◌, ◌⊎◌, ℕ, zero, suc, Bool, true, false, not, ◌&&◌, ◌||◌, List, [], length, take, Option, Some, None, refl, sym, ◌∙◌, ap, subst, inl, inr, arith, set, get_or, add-one, unwrap_or, is_some, if◌then◌else◌}
+use Rattle.std.proofs.Common.{◌≡◌, ◌≢◌, ◌≤◌, ◌<◌, ◌+◌, ◌-◌, ◌⊎◌, ℕ, suc, Bool, true, false, not, ◌&&◌, ◌||◌, List, [], length, take, Option, Some, None, refl, sym, ◌∙◌, ap, subst, inl, inr, arith, set, get_or, add-one, unwrap_or, is_some, if◌then◌else◌}
 use Rattle.std.proofs.lemmas.Option.{same_Some}
 use Rattle.std.specs.Prelude.{◌==◌}
 use Rattle.std.proofs.lemmas.Bool.{eq-eqb}

@@ -20,7 +20,7 @@ use Rattle.pim_rows.specs.declared.runs.RunLevels.{RunLevels}
 use Rattle.pim_rows.specs.Standing.{thread_number, runs_of}
 use Rattle.pim_rows.specs.Episodes.{run_apart}
 use Rattle.pim_rows.specs.Rows.{by_number}
-use Rattle.pim_rows.specs.Runs.{AreChanges, AreBefore, IsEven, runs_now, is_runs, levels_of, change_of, changed}
+use Rattle.pim_rows.specs.Runs.{AreChanges, IsEven, runs_now, is_runs, levels_of, change_of}
 use Rattle.pim_world.proofs.Unknown.{nth-append_none}
 use Rattle.pim_rows.proofs.Frames.{at_kept, fact_kept, base-locked, base-unlocked}
 use Rattle.pim_rows.proofs.InOrder.{upto_has}
@@ -48,18 +48,16 @@ one_more_levels w ts i t apart old new h is of before added =
     more_mapped (levels_of w) ts i t (record { thread = t; levels = apart }) old new h is
     (ap (λ (apart : Option (ℕ × ℕ)). record { thread = t; levels = apart }) of) before added
 
-pub one_more_change : (next : World) (ls : List RunLevels) (i : ℕ) (l : RunLevels) (apart : Option (ℕ × ℕ)) (old new : List RunChange)
-    → i < length ls → l ≡ get_or ls i l → apart ≡ run_apart next l.thread → old ≡ map (changed next) (take i ls)
-    → new ≡ old ++ record { thread = l.thread; before = l.levels; now = apart } ∷ []
-    → new ≡ map (changed next) (take (i + 1) ls)
-one_more_change next ls i l apart old new h is of before added =
-    more_mapped (changed next) ls i l (record { thread = l.thread; before = l.levels; now = apart }) old new h is
-    (ap (λ (apart : Option (ℕ × ℕ)). record { thread = l.thread; before = l.levels; now = apart }) of) before added
-
--- the changes of the levels of these threads
-pub changed_levels : (w next : World) (ts : List ℕ) → map (changed next) (map (levels_of w) ts) ≡ map (change_of w next) ts
-changed_levels w next [] = refl
-changed_levels w next (t ∷ ts) = ap (λ (cs : List RunChange). change_of w next t ∷ cs) (changed_levels w next ts)
+pub one_more_change : (w next : World) (ts : List ℕ) (i t : ℕ) (before now : Option (ℕ × ℕ)) (old new : List RunChange)
+    → i < length ts → t ≡ get_or ts i t → before ≡ run_apart w t → now ≡ run_apart next t
+    → old ≡ map (change_of w next) (take i ts)
+    → new ≡ old ++ record { thread = t; before = before; now = now } ∷ []
+    → new ≡ map (change_of w next) (take (i + 1) ts)
+one_more_change w next ts i t before now old new h is of_before of_now so_far added =
+    more_mapped (change_of w next) ts i t (record { thread = t; before = before; now = now }) old new h is
+    (ap (λ (before : Option (ℕ × ℕ)). record { thread = t; before = before; now = now }) of_before
+    ∙ ap (λ (now : Option (ℕ × ℕ)). record { thread = t; before = run_apart w t; now = now }) of_now)
+    so_far added
 
 -- ---- how many threads there are
 
@@ -175,17 +173,12 @@ pub all_changes : (w : World) (l : Line) (changes : List RunChange) → IsEven w
 all_changes w l changes even values =
     record { values = values; others = undeclared_same w l even; order = filter-itself (by_number w) }
 
-pub all_before : (w : World) (l : Line) (levels : List RunLevels) → levels ≡ map (levels_of w) (by_number w) → IsEven w
-    → AreBefore w l levels
-all_before w l levels values even =
-    record { threads = by_number w; values = values; changes = λ cs changes. all_changes w l cs even changes }
-
 -- ---- no thread has a known level
 
 abbrev NoneKnown : World → Type 0
 NoneKnown w = (t : ℕ) → runs_of w t ≡ None
 
-none_known-after_what : (what : What) (t : ℕ) (w : World) → runs_now what ≡ false → (u : ℕ) → runs_of (after_what what t w) u ≡ runs_of w u
+pub none_known-after_what : (what : What) (t : ℕ) (w : World) → runs_now what ≡ false → (u : ℕ) → runs_of (after_what what t w) u ≡ runs_of w u
 none_known-after_what (whats.Granted m) t w other u =
     at_kept (λ w. runs_of w u) (w.mutex m) (λ n w. with_state w (locked (with_wait w.state t None) t n)) w (λ n. refl)
 none_known-after_what (whats.Took m) t w other u =
@@ -221,22 +214,9 @@ none_known_after w (lines.Lost time) other none zero = refl
 none_known_after w (lines.Lost time) other none (suc i) = forgotten_at (length w.kernel.runs) i
 none_known_after w (lines.End time) other none t = none t
 
-pub none_before : (w : World) (l : Line) (levels : List RunLevels) → is_runs l ≡ false → NoneKnown w → levels ≡ [] → AreBefore w l levels
-none_before w l levels other none empty = record {
-  threads = [];
-  values = empty;
-  changes = λ cs changes.
-      subst (AreChanges w (after w l) []) (sym changes)
-      (no_changes w (after w l)
-      (λ t. run_apart-none (after w l) t (none_known_after w l other none t) ∙ sym (run_apart-none w t (none t))));
-}
-
--- ---- for the caller
-
--- what `levels_before` and `changes_of` ensure makes the changes those of the line
-pub are_changes : (w next : World) (l : Line) (levels : List RunLevels) (cs : List RunChange) → next ≡ after w l
-    → (before : AreBefore w l levels)
-    → ((w : World) (ts : List ℕ) → levels ≡ map (levels_of w) ts → cs ≡ map (change_of w next) ts)
-    → AreChanges w (after w l) before.threads cs
-are_changes w next l levels cs is_after before changes =
-    before.changes cs (changes w before.threads before.values ∙ ap (λ (next : World). map (change_of w next) before.threads) is_after)
+pub none_before : (w : World) (l : Line) → is_runs l ≡ false → NoneKnown w → (cs : List RunChange) → cs ≡ []
+    → AreChanges w (after w l) [] cs
+none_before w l other none cs changes =
+    subst (AreChanges w (after w l) []) (sym changes)
+    (no_changes w (after w l)
+    (λ t. run_apart-none (after w l) t (none_known_after w l other none t) ∙ sym (run_apart-none w t (none t))))

@@ -201,7 +201,7 @@ all_lasting-kept ms kept are (t ∷ ts) =
     ap (λ (rows : List Row). rows ++ all_lasting kept (clock ms) (map (levels_of (now ms)) ts)) (lasting-kept ms kept t are)
     ∙ ap (λ (rows : List Row). lasting_run ms t ++ rows) (all_lasting-kept ms kept are ts)
 
-none_at_first : (t : ℕ) → run_apart no_world t ≡ None
+pub none_at_first : (t : ℕ) → run_apart no_world t ≡ None
 none_at_first zero = refl
 none_at_first (suc t) = refl
 

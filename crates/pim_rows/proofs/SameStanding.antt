@@ -1,5 +1,5 @@
 -- What holds of a waiting thread that a line doesn't touch.
-use Rattle.std.proofs.Common.{◌≡◌, ◌≤◌, ◌<◌, ◌⊎◌, ◌+◌, ◌++◌, ℕ, zero, suc, Bool, true, false, ◌&&◌, ◌||◌, nat_lt, List, [], ◌∷◌, length, length-append, Option, Some, None, is_some, is_none, unwrap_or, option_and_then, not, refl, sym, ◌∙◌, ap, subst, inl, inr, arith, slice_get, if◌then◌else◌}
+use Rattle.std.proofs.Common.{◌≡◌, ◌≤◌, ◌<◌, ◌⊎◌, ◌+◌, ◌++◌, ℕ, zero, suc, Bool, true, false, ◌&&◌, ◌||◌, nat_lt, List, [], ◌∷◌, length, length-append, Option, Some, None, is_some, is_none, unwrap_or, option_and_then, not, refl, sym, ◌∙◌, ap, subst, inl, inr, arith, if◌then◌else◌}
 use Rattle.std.specs.Prelude.{◌==◌}
 use Rattle.std.specs.Option.{option_map, option_map_or}
 use Rattle.std.proofs.lemmas.Bool.{cases_lt}
@@ -21,16 +21,17 @@ use Rattle.pim_waits.proofs.Ways.{contains-last_item}
 use Rattle.pim_world.specs.Worlds.{World, Kernel, no_world, blocked_at, last_cpu}
 use Rattle.pim_world.specs.After.{after, after_what, at_time, with_state, locked, unlocked}
 use Rattle.pim_world.specs.Touching.{declares}
+use Rattle.pim_world.proofs.Touching.{outside_both}
 use Rattle.pim_rows.specs.declared.tally.Standing.{Standing}
-use Rattle.pim_rows.specs.Standing.{Key, standing, waits, thread_number, mutex_number, off_of, is_ready_off, in_place_of, could_run, run_level, meanwhile_of, inverted_key, stalled_key, meanwhile_key}
-use Rattle.pim_rows.specs.Affected.{AreWaits, is_of_state, keeps_rest}
+use Rattle.pim_rows.specs.Standing.{Key, standing, waits, thread_number, mutex_number, off_of, is_ready_off, in_place_of, could_run, run_level, meanwhile_of, inverted_by, inverted_key, stalled_key, meanwhile_key}
+use Rattle.pim_rows.specs.Affected.{AreWaits, affects_all, is_of_object, is_of_state, keeps_rest}
 use Rattle.pim_rows.specs.AllOpen.{AreSame}
 use Rattle.pim_rows.proofs.Frames.{at_kept, fact_kept, wait-locked, wait-unlocked}
 use Rattle.pim_rows.proofs.RunChanges.{base_len-fact}
 
 -- ---- the ends of a way
 
-way_first : (hop : ℕ → Option ℕ) (n t : ℕ) → contains (chain hop n t) t ≡ true
+pub way_first : (hop : ℕ → Option ℕ) (n t : ℕ) → contains (chain hop n t) t ≡ true
 way_first hop zero t = contains-first t [] t refl
 way_first hop (suc n) t = contains-first t (option_map_or (chain hop n) (hop t) []) t refl
 
@@ -53,9 +54,9 @@ chosen : {A : Type 0} (f g : ℕ → A) (b : Bool) (r : ℕ) → f r ≡ g r
 chosen f g true r e = ap Some e
 chosen f g false r e = refl
 
-chosen_twice : {A : Type 0} (f g : ℕ → A) (h k : ℕ → Option ℕ) (b : Bool) (r : ℕ) → option_map f (h r) ≡ option_map g (k r)
+chosen_twice : {A : Type 0} (f g : ℕ → A) (h k : ℕ → Option ℕ) (b : Bool) (r : ℕ) → (b ≡ true → option_map f (h r) ≡ option_map g (k r))
     → option_map f (option_and_then h (if b then Some r else None)) ≡ option_map g (option_and_then k (if b then Some r else None))
-chosen_twice f g h k true r e = e
+chosen_twice f g h k true r e = e refl
 chosen_twice f g h k false r e = refl
 
 abbrev less_than : World → ℕ → ℕ → ℕ → Option ℕ
@@ -84,7 +85,7 @@ run_meanwhile w t r = option_map (meanwhile_key w) (meanwhile_of w t r)
 
 module _ (w v : World) (t : ℕ) (same : IsUntouched w.state v.state t) (threads : v.threads ≡ w.threads)
     (mutexes : v.mutexes ≡ w.mutexes) (blocked : v.blocked ≡ w.blocked)
-    (meanwhile : (r : ℕ) → run_meanwhile v t r ≡ run_meanwhile w t r) where
+    (meanwhile : (r : ℕ) → inverted_by w t ≡ Some r → run_meanwhile v t r ≡ run_meanwhile w t r) where
   gets_t : gets v.state t ≡ gets w.state t
   gets_t = (same.each t (way_first (blocker w.state) (length w.state.base) t)).gets
 
@@ -107,6 +108,11 @@ module _ (w v : World) (t : ℕ) (same : IsUntouched w.state v.state t) (threads
       ap (λ bs. option_map (λ x. (x, thread_number v r, 0)) (unwrap_or (nth bs r) None)) blocked
       ∙ ap (λ n. option_map (λ x. (x, n, 0)) (blocked_at w r)) (number_same r)
 
+  inverted_is : (r : ℕ) → runner w.state t ≡ Some r → (could_run w r && nat_lt (gets w.state r) (gets w.state t)) ≡ true
+      → inverted_by w t ≡ Some r
+  inverted_is r e is =
+      ap (option_and_then (λ r. less_than w t r (gets w.state r))) e ∙ ap (λ b. if b then Some r else None) is
+
   by_runner : (o : Option ℕ) → runner w.state t ≡ o → standing_by v t o ≡ standing_by w t o
   by_runner None e = refl
   by_runner (Some r) e =
@@ -120,7 +126,8 @@ module _ (w v : World) (t : ℕ) (same : IsUntouched w.state v.state t) (threads
       (key_same _ _ _ _ _ _ blamed_same (number_same r) kept.gets))
       (stalled_same r)
       (ap (λ o. option_map (meanwhile_key v) (option_and_then (meanwhile_of v t) o)) less
-      ∙ chosen_twice (meanwhile_key v) (meanwhile_key w) (meanwhile_of v t) (meanwhile_of w t) b r (meanwhile r))
+      ∙ chosen_twice (meanwhile_key v) (meanwhile_key w) (meanwhile_of v t) (meanwhile_of w t) b r
+      (λ is. meanwhile r (inverted_is r e is)))
 
   pub standing_same : standing v t ≡ standing w t
   standing_same = ap (standing_by v t) same.runner ∙ by_runner (runner w.state t) refl
@@ -187,6 +194,50 @@ keeps_declared lines.Unseen h = refl
 keeps_declared (lines.Fact time t what) h = refl
 keeps_declared (lines.Lost time) h = refl
 keeps_declared (lines.End time) h = refl
+
+-- all but what the kernel does, too
+abbrev Most : Type 0
+Most = List ℕ × List ℕ × List (Option ℕ)
+
+abbrev most : World → Most
+most w = (w.threads, w.mutexes, w.blocked)
+
+most-after_what : (what : What) (t : ℕ) (w : World) → is_of_object what ≡ false → most (after_what what t w) ≡ most w
+most-after_what (whats.Granted m) t w h =
+    at_kept most (w.mutex m) (λ n w. with_state w (locked (with_wait w.state t None) t n)) w (λ n. refl)
+most-after_what (whats.Took m) t w h = at_kept most (w.mutex m) (λ n w. with_state w (locked w.state t n)) w (λ n. refl)
+most-after_what (whats.Waits m) t w h =
+    at_kept most (w.mutex m) (λ n w. with_state w (with_wait w.state t (Some (wait_for n)))) w (λ n. refl)
+most-after_what (whats.GaveUp m) t w h = refl
+most-after_what (whats.Released m) t w h = at_kept most (w.mutex m) (λ n w. with_state w (unlocked w.state n)) w (λ n. refl)
+most-after_what (whats.Priority level) t w h = refl
+most-after_what (whats.Ceiling m level) t w h =
+    at_kept most (w.mutex m) (λ n w. with_state w (with_ceiling w.state n level)) w (λ n. refl)
+most-after_what (whats.Blocks x) t w h = absurd (let no : true ≡ false = h in cc)
+most-after_what (whats.Resumes x ended) t w h = absurd (let no : true ≡ false = h in cc)
+most-after_what (whats.Runs level) t w h = refl
+most-after_what (whats.On cpu) t w h = refl
+most-after_what whats.OffReady t w h = refl
+most-after_what whats.OffAsleep t w h = refl
+
+most-after : (w : World) (l : Line) → affects_all l ≡ false → most (after w l) ≡ most w
+most-after w (lines.Thread t level) h = absurd (let no : true ≡ false = h in cc)
+most-after w (lines.Mutex m is_recursive protocol) h = absurd (let no : true ≡ false = h in cc)
+most-after w (lines.Object x) h = refl
+most-after w lines.Unseen h = refl
+most-after w (lines.Fact time t what) h =
+    fact_kept most (w.thread t) what time w (λ p e. most-after_what what p (at_time time w) h) refl
+most-after w (lines.Lost time) h = refl
+most-after w (lines.End time) h = refl
+
+most_declared : (l : Line) → affects_all l ≡ false → declares l ≡ false
+most_declared (lines.Thread t level) h = h
+most_declared (lines.Mutex m is_recursive protocol) h = h
+most_declared (lines.Object x) h = refl
+most_declared lines.Unseen h = refl
+most_declared (lines.Fact time t what) h = refl
+most_declared (lines.Lost time) h = refl
+most_declared (lines.End time) h = refl
 
 -- ---- which threads may wait
 
@@ -279,7 +330,22 @@ module _ (w v : World) (l : Line) (is_after : v ≡ after w l) (are : AreWaits w
       standing_same w next t
       (touched.others t (waits_task w are t lasts) (ap (λ (ts : List ℕ). contains ts t) (sym touched.appended) ∙ other))
       (ap (λ (r : Rest). r.0) r) (ap (λ (r : Rest). r.1) r) (ap (λ (r : Rest). r.2) r)
-      (λ r. meanwhile-none next t r none_after ∙ sym (meanwhile-none w t r none_before))
+      (λ r is. meanwhile-none next t r none_after ∙ sym (meanwhile-none w t r none_before))
+
+  pub same_inverted : (ts us : List ℕ) → affects_all l ≡ false
+      → (declares l ≡ false → Touches w.state v.state [] ts)
+      → ((t : ℕ) → waits t w ≡ true → contains us t ≡ false → inverted_by w t ≡ None)
+      → AreSame w (after w l) (us ++ ts)
+  same_inverted ts us most_kept touches calm t lasts other =
+      let next = after w l in
+      let both = outside_both us ts t other in
+      let m : most next ≡ most w = most-after w l most_kept in
+      let touched : Touches w.state next.state [] ts =
+      subst (λ (v : World). Touches w.state v.state [] ts) is_after (touches (most_declared l most_kept)) in
+      standing_same w next t
+      (touched.others t (waits_task w are t lasts) (ap (λ (ts : List ℕ). contains ts t) (sym touched.appended) ∙ both.1))
+      (ap (λ (m : Most). m.0) m) (ap (λ (m : Most). m.1) m) (ap (λ (m : Most). m.2) m)
+      (λ r is. absurd (let no : None ≡ Some r = sym (calm t lasts both.0) ∙ is in cc))
 
   pub same_all : (ts : List ℕ) → ((t : ℕ) → IsTask v.state t → contains ts t ≡ true) → AreSame w (after w l) ts
   same_all ts all t lasts other =

@@ -1,10 +1,10 @@
--- Which lines change nothing but who owns and awaits what, and what threads have and get.
-use Rattle.std.specs.Prelude.{◌≡◌, ℕ, Bool, true, false, List, length, Option}
+-- Which lines affect whom.
+use Rattle.std.specs.Prelude.{◌≡◌, Bool, true, false, length}
 use Rattle.pim_fact_lines.specs.declared.line.Line.{Line}
 use Rattle.pim_fact_lines.specs.declared.line.Line.TheVariants as lines
 use Rattle.pim_fact_lines.specs.declared.line.What.{What}
 use Rattle.pim_fact_lines.specs.declared.line.What.TheVariants as whats
-use Rattle.pim_world.specs.Worlds.{World, Kernel}
+use Rattle.pim_world.specs.Worlds.{World}
 
 -- it is of mutexes or levels
 abbrev pub is_of_state : What → Bool
@@ -31,6 +31,32 @@ keeps_rest lines.Unseen = true
 keeps_rest (lines.Fact time t what) = is_of_state what
 keeps_rest (lines.Lost time) = false
 keeps_rest (lines.End time) = true
+
+-- it is of an object
+abbrev pub is_of_object : What → Bool
+is_of_object (whats.Granted m) = false
+is_of_object (whats.Took m) = false
+is_of_object (whats.Waits m) = false
+is_of_object (whats.GaveUp m) = false
+is_of_object (whats.Released m) = false
+is_of_object (whats.Priority level) = false
+is_of_object (whats.Ceiling m level) = false
+is_of_object (whats.Blocks x) = true
+is_of_object (whats.Resumes x ended) = true
+is_of_object (whats.Runs level) = false
+is_of_object (whats.On cpu) = false
+is_of_object whats.OffReady = false
+is_of_object whats.OffAsleep = false
+
+-- the line declares a thread or a mutex, or a thread is blocked or isn't any more
+abbrev pub affects_all : Line → Bool
+affects_all (lines.Thread t level) = true
+affects_all (lines.Mutex m is_recursive protocol) = true
+affects_all (lines.Object x) = false
+affects_all lines.Unseen = false
+affects_all (lines.Fact time t what) = is_of_object what
+affects_all (lines.Lost time) = false
+affects_all (lines.End time) = false
 
 -- each thread may wait, and no other one
 abbrev pub AreWaits : World → Type 0

@@ -65,6 +65,14 @@ GoneOnAt w t (Some old) (Some new) = GoneOn w t old new
 abbrev pub AreSame : World → World → List ℕ → Type 0
 AreSame w after ts = (t : ℕ) → waits t w ≡ true → contains ts t ≡ false → standing after t ≡ standing w t
 
+-- a wait that is kept in a place isn't inverted
+abbrev pub IsCalm : Option (Option OpenWait) → Type 0
+IsCalm x = (o : OpenWait) → x ≡ Some (Some o) → o.standing.inverted ≡ None
+
+-- each wait that is inverted is that of one of these threads
+abbrev pub AreInverted : List ℕ → List (Option OpenWait) → Type 0
+AreInverted ts opens = (t : ℕ) → contains ts t ≡ false → IsCalm (nth opens t)
+
 -- of each thread whose wait is kept, and which isn't one of these, it is kept what holds in this world
 abbrev pub AreCurrent : World → List ℕ → List (Option OpenWait) → Type 0
 AreCurrent w ts opens = (t : ℕ) (o : OpenWait) → nth opens t ≡ Some (Some o) → contains ts t ≡ false → o.standing ≡ standing w t

@@ -11,6 +11,7 @@ pub mod Rows
 pub mod Puts
 pub mod Starts
 pub mod Runs
+pub mod Levels
 pub mod Kept
 pub mod OffTimes
 pub mod Tracking

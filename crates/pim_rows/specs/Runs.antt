@@ -31,10 +31,6 @@ levels_of w t = record { thread = t; levels = run_apart w t }
 abbrev pub change_of : World → World → ℕ → RunChange
 change_of w after t = record { thread = t; before = run_apart w t; now = run_apart after t }
 
--- how the levels of a thread changed, in a world after
-abbrev pub changed : World → RunLevels → RunChange
-changed after l = record { thread = l.thread; before = l.levels; now = run_apart after l.thread }
-
 -- of each thread, and no other, the kernel may have a level at which it runs it
 abbrev pub IsEven : World → Type 0
 IsEven w = length w.kernel.runs ≡ length w.state.base
@@ -100,9 +96,3 @@ is_runs lines.Unseen = false
 is_runs (lines.Fact time t what) = runs_now what
 is_runs (lines.Lost time) = false
 is_runs (lines.End time) = false
-
--- these are the levels of the threads of which this line may change them
-pub record AreBefore (w : World) (l : Line) (levels : List RunLevels) : Type 0 where
-  pub threads : List ℕ
-  pub values : levels ≡ map (levels_of w) threads
-  pub changes : (cs : List RunChange) → cs ≡ map (change_of w (after w l)) threads → AreChanges w (after w l) threads cs

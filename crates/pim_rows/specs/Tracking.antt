@@ -13,6 +13,7 @@ use Rattle.pim_rows.specs.Starts.{AreStarts}
 use Rattle.pim_rows.specs.AllOpen.{AreOpen}
 use Rattle.pim_rows.specs.OffTimes.{AreOffTimes}
 use Rattle.pim_rows.specs.Runs.{AreRuns, IsEven}
+use Rattle.pim_rows.specs.Levels.{AreLevels}
 use Rattle.pim_rows.specs.Affected.{AreWaits}
 use Rattle.pim_rows.specs.Puts.{Puts}
 
@@ -27,6 +28,7 @@ pub record Tracks (t : Tracker) (ms : List Moment) : Type 0 where
   pub blocks : AreStarts is_blocked block (kept_of t.blocks.starts) ms
   pub grants : AreStarts is_owned grant (kept_of t.grants.starts) ms
   pub off_times : AreOffTimes (kept_of t.off_times.starts) ms
+  pub levels : AreLevels (kept_of t.levels.apart) (now ms)
   pub runs : AreRuns (kept_of t.runs.starts) ms
   pub sections : t.sections ≡ sections ms
   pub nests : t.nests ≡ nests ms

@@ -23,6 +23,7 @@ mod grants;
 mod in_order;
 mod lasting;
 mod laws;
+mod levels;
 mod lines;
 mod nest_table;
 mod nesting;

@@ -1,6 +1,6 @@
 //! A wait that lasts.
 
-ghost use Rattle.std.specs.Prelude.{IfOk};
+ghost use Rattle.std.specs.Prelude.{◌≡◌, is_some, IfOk};
 ghost use Rattle.pim_rows.specs.OpenWaits.{IsUntil, Begins, Renews, EndsWith, HasTimes};
 
 use crate::tally::{Standing, Tally};
@@ -45,6 +45,13 @@ impl OpenWait {
         self.since = clock;
         self.standing = standing;
         Ok(())
+    }
+
+    /// Returns whether the thread is inverted.
+    pub fn is_inverted(&self) -> bool
+        ensures { result ≡ is_some self.now.standing.inverted }
+    {
+        self.standing.inverted.is_some()
     }
 
     /// Returns for how long what held, until now.

@@ -1,7 +1,7 @@
 //! All waits that last.
 
-ghost use Rattle.std.specs.Prelude.{◌≡◌, ◌≢◌, ◌≤◌, ◌<◌, ◌+◌, ℕ, List, length, IfOk, Some, None};
-ghost use Rattle.pim_base.specs.Lists.{nth};
+ghost use Rattle.std.specs.Prelude.{◌≡◌, false, ◌≢◌, ◌≤◌, ◌<◌, ◌+◌, ℕ, List, length, IfOk, Some, None};
+ghost use Rattle.pim_base.specs.Lists.{nth, contains};
 ghost use Rattle.pim_fact_lines.specs.declared.line.Line.{Line};
 ghost use Rattle.pim_world.specs.After.{after};
 ghost use Rattle.pim_world.specs.Held.{world_of};
@@ -10,7 +10,7 @@ ghost use Rattle.pim_rows.specs.Moments.{Moment, now, first_moments, followed_by
 ghost use Rattle.pim_rows.specs.Standing.{waits};
 ghost use Rattle.pim_rows.specs.Found.{actor};
 ghost use Rattle.pim_rows.specs.OpenWaits.{IsUntil};
-ghost use Rattle.pim_rows.specs.AllOpen.{AreOpen, AreUntil, AreSame, AreCurrent, GoneOnAt, EndedAt, BegunAt, SameBut, open_at, ended_times};
+ghost use Rattle.pim_rows.specs.AllOpen.{AreOpen, AreUntil, AreSame, AreCurrent, AreInverted, IsCalm, GoneOnAt, EndedAt, BegunAt, SameBut, open_at, ended_times};
 
 use crate::open_wait::OpenWait;
 use crate::tally::{Standing, Tally};
@@ -74,6 +74,47 @@ impl OpenWaits {
         }
         self.begin(alloc, world, thread)?;
         Ok(None)
+    }
+
+    /// Returns the threads that are inverted.
+    ///
+    /// # Errors
+    ///
+    /// Returns `AllocError` if out of memory.
+    pub(crate) fn inverted(&self, alloc: Global) -> Result<Vec<ThreadPlace>, AllocError>
+        ensures { IfOk result (λ threads. AreInverted threads.items self.now.opens.items) }
+    {
+        let mut threads = Vec::new(alloc);
+        for index in 0..self.opens.len() {
+            self.note(index, &mut threads)?;
+        }
+        Ok(threads)
+    }
+
+    /// Appends the thread whose wait is at one place, if it is inverted.
+    fn note(&self, index: usize, threads: &mut Vec<ThreadPlace>) -> Result<(), AllocError>
+        requires { index < length self.now.opens.items }
+        ensures kept { IfOk result (λ _. (t : ℕ) → contains threads.new.items t ≡ false → contains threads.old.items t ≡ false) }
+        ensures here { IfOk result (λ _. contains threads.new.items (index + 1) ≡ false → IsCalm (nth self.now.opens.items (index + 1))) }
+    {
+        if !self.is_inverted(index) {
+            return Ok(());
+        }
+        match threads.push(ThreadPlace(index + 1)) {
+            Ok(()) => Ok(()),
+            Err(_) => Err(AllocError),
+        }
+    }
+
+    /// Returns whether the wait at one place is inverted.
+    fn is_inverted(&self, index: usize) -> bool
+        requires { index < length self.now.opens.items }
+        ensures { result ≡ false → IsCalm (nth self.now.opens.items (index + 1)) }
+    {
+        match &self.opens[index] {
+            Some(open) => open.is_inverted(),
+            None => false,
+        }
     }
 
     /// Keeps the wait of a thread, which waits since the line after which this is the world.

@@ -1,14 +1,21 @@
 //! The levels of threads before a line and after it.
 
-ghost use Rattle.std.specs.Prelude.{◌≡◌, ℕ, List, IfOk, map};
-ghost use Rattle.pim_world.specs.Held.{world_of};
+ghost use Rattle.std.specs.Prelude.{◌≡◌, ◌++◌, ◌∷◌, [], ℕ, List, true, false, IfOk, map};
+ghost use Rattle.std.specs.Option.{option_map_or};
+ghost use Rattle.pim_waits.specs.Touched.{Touches};
+ghost use Rattle.pim_world.specs.After.{after};
+ghost use Rattle.pim_world.specs.Held.{world_of, touched_of};
+ghost use Rattle.pim_world.specs.Touching.{declares};
 ghost use Rattle.pim_world.specs.Worlds as worlds;
 ghost use Rattle.pim_rows.specs.Episodes.{run_apart};
+ghost use Rattle.pim_rows.specs.Found.{actor};
+ghost use Rattle.pim_rows.specs.Levels.{IsUnrun, MayChange, moves_all};
 ghost use Rattle.pim_rows.specs.Rows.{by_number};
-ghost use Rattle.pim_rows.specs.Runs.{IsEven, AreBefore, is_runs, runs_now, levels_of, change_of};
+ghost use Rattle.pim_rows.specs.Runs.{IsEven, is_runs, runs_now, levels_of};
 
 use crate::deadlocks::by_number;
-use crate::runs::{RunChange, RunLevels};
+use crate::in_order::in_order;
+use crate::runs::RunLevels;
 use pim_fact_lines::{Line, What};
 use pim_waits::ThreadPlace;
 use pim_world::World;
@@ -51,24 +58,107 @@ pub(crate) fn levels_of_all(alloc: Global, world: &World) -> Result<Vec<RunLevel
     Ok(levels)
 }
 
-/// Returns the levels of the threads of which a line may change them, in ascending order of their numbers. Takes the world
-/// before the line.
+/// Returns `false` only if no level at which the kernel runs a thread is known before a line or after it. Takes the world
+/// before it.
+pub(crate) fn may_run(world: &World, line: &Line) -> bool
+    ensures { result ≡ false → IsUnrun (world_of world.now) line.now }
+{
+    world.kernel().is_run() || is_runs(line)
+}
+
+/// Returns all threads, in ascending order of their numbers, if a line may change the levels of all of them. Takes the world
+/// before it, and what `may_run` returns.
 ///
 /// # Errors
 ///
 /// Returns `AllocError` if out of memory.
-pub(crate) fn levels_before(
+pub(crate) fn moved(
     alloc: Global,
     world: &World,
     line: &Line,
-) -> Result<Vec<RunLevels>, AllocError>
-    ensures { IfOk result (λ levels. IsEven (world_of world.now) → AreBefore (world_of world.now) line.now levels.items) }
+    may_run: bool,
+) -> Result<Vec<ThreadPlace>, AllocError>
+    ensures { IfOk result (λ threads.
+        may_run ≡ true → moves_all line.now ≡ true → threads.items ≡ by_number (world_of world.now)) }
 {
-    if !world.kernel().is_run() && !is_runs(line) {
+    if may_run && moves_all(line) {
+        let threads = by_number(alloc, world)?;
+        return Ok(threads);
+    }
+    Ok(Vec::new(alloc))
+}
+
+/// Returns the threads of which a line may have changed the levels, in ascending order of their numbers. Takes the world after
+/// it, its thread, and what `may_run` and `moved` return.
+///
+/// # Errors
+///
+/// Returns `AllocError` if out of memory.
+pub(crate) fn changed(
+    alloc: Global,
+    world: &World,
+    line: &Line,
+    thread: Option<ThreadPlace>,
+    may_run: bool,
+    moved: Vec<ThreadPlace>,
+) -> Result<Vec<ThreadPlace>, AllocError>
+    ensures { IfOk result (λ threads. (w : worlds.World) → world_of world.now ≡ after w line.now → IsEven w
+        → thread ≡ actor w line.now
+        → (may_run ≡ false → IsUnrun w line.now)
+        → (may_run ≡ true → moves_all line.now ≡ true → moved.items ≡ by_number w)
+        → (declares line.now ≡ false → Touches w.state (world_of world.now).state [] (touched_of world.now))
+        → MayChange w line.now threads.items) }
+{
+    if !may_run {
         return Ok(Vec::new(alloc));
     }
-    let levels = levels_of_all(alloc, world)?;
-    Ok(levels)
+    if moves_all(line) {
+        return Ok(moved);
+    }
+    let touched = with_thread(alloc, world.touched(), thread)?;
+    let threads = in_order(alloc, world, &touched)?;
+    Ok(threads)
+}
+
+/// Returns these threads, and this one after them.
+fn with_thread(
+    alloc: Global,
+    threads: &[ThreadPlace],
+    thread: Option<ThreadPlace>,
+) -> Result<Vec<ThreadPlace>, AllocError>
+    ensures { IfOk result (λ all. all.items ≡ option_map_or (λ t. threads.now ++ t ∷ []) thread threads.now) }
+{
+    let mut all = Vec::new(alloc);
+    all.extend_from_slice(threads)?;
+    if let Some(thread) = thread {
+        let Ok(()) = all.push(thread) else {
+            return Err(AllocError);
+        };
+    }
+    Ok(all)
+}
+
+/// Returns whether a line declares something, or forgets what the kernel did.
+fn moves_all(line: &Line) -> bool
+    ensures { result ≡ moves_all line.now }
+{
+    match line {
+        Line::Thread(_, _)
+        | Line::Mutex {
+            number: _,
+            is_recursive: _,
+            protocol: _,
+        }
+        | Line::Lost { time: _ } => true,
+        Line::Object(_)
+        | Line::Unseen
+        | Line::Fact {
+            time: _,
+            thread: _,
+            what: _,
+        }
+        | Line::End { time: _ } => false,
+    }
 }
 
 /// Returns whether a line says at which level the kernel runs a thread.
@@ -113,31 +203,4 @@ fn runs_now(what: &What) -> bool
         | What::OffReady
         | What::OffAsleep => false,
     }
-}
-
-/// Returns how the levels of threads changed. Takes the world after a line, and the levels from before it.
-///
-/// # Errors
-///
-/// Returns `AllocError` if out of memory.
-pub(crate) fn changes_of(
-    alloc: Global,
-    world: &World,
-    levels: &[RunLevels],
-) -> Result<Vec<RunChange>, AllocError>
-    ensures { IfOk result (λ changes. (w : worlds.World) (ts : List ℕ) → levels.now ≡ map (levels_of w) ts
-        → changes.items ≡ map (change_of w (world_of world.now)) ts) }
-{
-    let mut changes = Vec::new(alloc);
-    for one in levels {
-        let change = RunChange {
-            thread: one.thread,
-            before: one.levels,
-            now: run_apart(world, one.thread),
-        };
-        let Ok(()) = changes.push(change) else {
-            return Err(AllocError);
-        };
-    }
-    Ok(changes)
 }

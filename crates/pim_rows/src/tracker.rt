@@ -21,6 +21,7 @@ use crate::ended_rows::put_ended;
 use crate::going::go;
 use crate::grants::Grants;
 use crate::lasting::{put_lasting_blocks, put_lasting_waits};
+use crate::levels::Levels;
 use crate::lines::{actor, asked_mutex, locked_mutex};
 use crate::nest_table::{NestTable, put_nests as put_nest_rows};
 use crate::nesting::put_nests;
@@ -28,7 +29,7 @@ use crate::off_times::OffTimes;
 use crate::open_waits::OpenWaits;
 use crate::row::Word;
 use crate::rows_text::put_row;
-use crate::run_changes::{changes_of, levels_before, levels_of_all};
+use crate::run_changes::{changed, levels_of_all, may_run, moved};
 use crate::runs::{RunLevels, Runs};
 use crate::section_table::{SectionTable, put_sections};
 use crate::sections::{end_section, put_lasting_sections};
@@ -49,6 +50,7 @@ pub(crate) struct Tracker {
     blocks: Blocks,
     grants: Grants,
     off_times: OffTimes,
+    levels: Levels,
     runs: Runs,
     sections: SectionTable,
     nests: NestTable,
@@ -70,6 +72,7 @@ impl Drop for Tracker {
             blocks: _,
             grants: _,
             off_times: _,
+            levels: _,
             runs: _,
             sections: _,
             nests: _,
@@ -93,6 +96,7 @@ impl Tracker {
             blocks: Blocks::new(alloc),
             grants: Grants::new(alloc),
             off_times: OffTimes::new(alloc),
+            levels: Levels::new(alloc),
             runs: Runs::new(alloc),
             sections: SectionTable::new(alloc),
             nests: NestTable::new(alloc),
@@ -116,7 +120,8 @@ impl Tracker {
         let thread = &actor(&self.world, line);
         let mutex = &locked_mutex(&self.world, line);
         let was = Before::of(&self.world, thread, mutex);
-        let levels = levels_before(alloc, &self.world, line)?;
+        let is_run = may_run(&self.world, line);
+        let all = moved(alloc, &self.world, line, is_run)?;
         let asked = asked_mutex(&self.world, line);
         put_nests(
             &mut self.nests,
@@ -137,7 +142,7 @@ impl Tracker {
         self.number = n;
 
         let (world, out) = (&self.world, &mut self.out);
-        let affected = affected(alloc, world, line)?;
+        let affected = affected(alloc, world, line, &self.opens)?;
         let times = self
             .opens
             .follow(alloc, world, *thread, was.waits, &affected)?;
@@ -153,8 +158,10 @@ impl Tracker {
         )?;
         self.waits = more(self.waits, ended.waits)?;
         self.inverted = more(self.inverted, ended.inverted)?;
-        let changes = changes_of(alloc, world, &levels)?;
+        let threads = changed(alloc, world, line, *thread, is_run, all)?;
+        let changes = self.levels.changes(alloc, world, &threads)?;
         self.runs.follow(out, world, n, &changes)?;
+        self.levels.follow(&changes)?;
         end_section(
             &mut self.sections,
             world,

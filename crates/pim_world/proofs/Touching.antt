@@ -45,7 +45,7 @@ untouched_twice S T U t first second = record {
   way = second.way ∙ first.way;
 }
 
-outside_both : (xs ys : List ℕ) (t : ℕ) → contains (xs ++ ys) t ≡ false → (contains xs t ≡ false) × (contains ys t ≡ false)
+pub outside_both : (xs ys : List ℕ) (t : ℕ) → contains (xs ++ ys) t ≡ false → (contains xs t ≡ false) × (contains ys t ≡ false)
 outside_both [] ys t out = (refl, out)
 outside_both (x ∷ xs) ys t out = go (t == x) out (outside_both xs ys t)
   where

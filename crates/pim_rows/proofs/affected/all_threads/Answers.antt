@@ -1,4 +1,4 @@
-use Rattle.std.proofs.Common.{◌≡◌, ℕ, length, ap, arith}
+use Rattle.std.proofs.Common.{◌≡◌, length, ap, arith}
 use Rattle.pim_base.specs.State.{State}
 use Rattle.pim_rows.proofs.SameStanding.{upto_none, upto_more}
 use Rattle.pim_rows.proofs.affected.all_threads.Goals as goal

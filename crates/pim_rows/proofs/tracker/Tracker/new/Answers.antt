@@ -6,6 +6,7 @@ use Rattle.pim_rows.specs.Kept.{kept_of}
 use Rattle.pim_rows.proofs.Starting.{nothing_waits, nothing_is_blocked, nothing_is_owned, no_starts}
 use Rattle.pim_rows.proofs.Appended.{puts_none}
 use Rattle.pim_rows.proofs.RunChanges.{IsEven-first}
+use Rattle.pim_rows.proofs.KeptLevels.{levels_at_first}
 use Rattle.pim_rows.proofs.SameStanding.{AreWaits-first}
 use Rattle.pim_rows.proofs.tracker.Tracker.new.Goals as goal
 
@@ -20,8 +21,9 @@ returns c = record {
   blocks = no_starts is_blocked block (kept_of c.new-4.result.starts) nothing_is_blocked;
   grants = no_starts is_owned grant (kept_of c.new-5.result.starts) nothing_is_owned;
   off_times = c.new-6.ensures;
-  runs = c.new-7.ensures;
-  sections = c.new-8.ensures;
-  nests = c.new-9.ensures;
-  written = rw c.new-10.ensures.items (puts_none []);
+  levels = levels_at_first (kept_of c.new-7.result.apart) c.new-7.ensures;
+  runs = c.new-8.ensures;
+  sections = c.new-9.ensures;
+  nests = c.new-10.ensures;
+  written = rw c.new-11.ensures.items (puts_none []);
 }

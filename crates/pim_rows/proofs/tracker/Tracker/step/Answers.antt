@@ -1,4 +1,4 @@
-use Rattle.std.proofs.Common.{◌≡◌, ◌+◌, ℕ, false, sym, ◌∙◌, ap, subst, None, Option, List, []}
+use Rattle.std.proofs.Common.{◌≡◌, ◌+◌, ℕ, true, false, map, sym, ◌∙◌, ap, subst, None, Option, List, []}
 use Rattle.pim_waits.specs.Waiting.{gets}
 use Rattle.pim_world.specs.Worlds.{World}
 use Rattle.pim_world.specs.After.{after}
@@ -10,11 +10,14 @@ use Rattle.pim_rows.specs.Before.{IsBefore}
 use Rattle.pim_rows.specs.Found.{actor, mutex_of, asked_mutex, of_fact}
 use Rattle.pim_rows.specs.Moments.{now, followed_by}
 use Rattle.pim_rows.specs.declared.runs.RunChange.{RunChange}
-use Rattle.pim_rows.specs.Runs.{IsEven, AreBefore, AreChanges}
+use Rattle.pim_rows.specs.Runs.{AreChanges, change_of}
+use Rattle.pim_rows.specs.Levels.{IsUnrun, MayChange, moves_all, with_levels}
+use Rattle.pim_rows.specs.Kept.{kept_of}
 use Rattle.pim_rows.specs.Puts.{Puts}
-use Rattle.pim_rows.specs.Rows.{ended_rows}
+use Rattle.pim_rows.specs.Rows.{ended_rows, by_number}
 use Rattle.pim_rows.proofs.Opening.{until_after}
-use Rattle.pim_rows.proofs.RunChanges.{IsEven-after, are_changes}
+use Rattle.pim_rows.proofs.RunChanges.{IsEven-after}
+use Rattle.pim_rows.proofs.KeptLevels.{levels_followed}
 use Rattle.pim_rows.proofs.SameStanding.{AreWaits-after}
 use Rattle.pim_rows.proofs.Stepping.{written_after}
 use Rattle.pim_rows.proofs.tracker.Tracker.step.Goals as goal
@@ -48,24 +51,33 @@ returns c ms tracks may =
     subst P tracks.world (c.in_ok-go.ensures.touched d) in
     let same : AreSame (now ms) (after (now ms) l) c.deref.result.now =
     let P : List ℕ → Type 0 = λ ts. AreSame (now ms) (after (now ms) l) ts in
-    subst P (sym c.deref.ensures.value) (c.in_ok-affected.ensures (now ms) w tracks.waiting touches) in
+    subst P (sym c.deref.ensures.value) (c.in_ok-affected.ensures ms w tracks.waiting touches tracks.opens) in
     let opens = c.in_ok-times.ensures.kept ms l w thread was.waits same tracks.opens in
     let times = c.in_ok-times.ensures.ended ms l w thread was.waits tracks.opens in
     let put =
     c.in_ok-ended.ensures ms w n thread (λ t e. times ∙ ap (λ (o : Option ℕ). ended_times o ms l) e) may tracks.starts
     tracks.blocks in
-    let before : AreBefore (now ms) l c.in_ok-levels.levels.items =
-    let P : World → Type 0 = λ w. AreBefore w l c.in_ok-levels.levels.items in
-    let E : World → Type 0 = λ w. IsEven w in
-    subst P tracks.world (c.in_ok-levels.ensures (subst E (sym tracks.world) tracks.even)) in
-    let changed : AreChanges (now ms) (after (now ms) l) before.threads c.in_ok-changes.changes.items =
-    are_changes (now ms) (world_of c.go.new.world) l c.in_ok-levels.levels.items c.in_ok-changes.changes.items w before
-    (λ w ts e. c.in_ok-changes.ensures w ts (c.deref-2.ensures.value ∙ e)) in
-    let changes : AreChanges (now ms) (after (now ms) l) before.threads c.deref-3.result.now =
-    let P : List RunChange → Type 0 = λ cs. AreChanges (now ms) (after (now ms) l) before.threads cs in
+    let unrun : c.may_run-is_run.result ≡ false → IsUnrun (now ms) l =
+    λ h. let P : World → Type 0 = λ w. IsUnrun w l in subst P tracks.world (c.may_run-is_run.ensures h) in
+    let moved : c.may_run-is_run.result ≡ true → moves_all l ≡ true → c.in_ok-all.all.items ≡ by_number (now ms) =
+    λ h moves. c.in_ok-all.ensures h moves ∙ ap by_number tracks.world in
+    let may_change : MayChange (now ms) l c.in_ok-threads.threads.items =
+    c.in_ok-threads.ensures (now ms) w tracks.even thread unrun moved touches in
+    let values : c.in_ok-changes.changes.items ≡ map (change_of (now ms) (after (now ms) l)) c.in_ok-threads.threads.items =
+    c.in_ok-changes.ensures (now ms) tracks.levels
+    ∙ ap (λ (v : World). map (change_of (now ms) v) c.deref-2.result.now) w
+    ∙ ap (map (change_of (now ms) (after (now ms) l))) c.deref-2.ensures.value in
+    let changed : AreChanges (now ms) (after (now ms) l) c.in_ok-threads.threads.items c.in_ok-changes.changes.items =
+    may_change c.in_ok-changes.changes.items values in
+    let changes : AreChanges (now ms) (after (now ms) l) c.in_ok-threads.threads.items c.deref-3.result.now =
+    let P : List RunChange → Type 0 = λ cs. AreChanges (now ms) (after (now ms) l) c.in_ok-threads.threads.items cs in
     subst P (sym c.deref-3.ensures.value) changed in
+    let levels =
+    levels_followed (now ms) (after (now ms) l) c.in_ok-threads.threads.items c.in_ok-changes.changes.items
+    (kept_of c.args.self.now.levels.apart) (kept_of c.follow-3.new.self.apart) changed tracks.levels
+    (c.in_ok-follow-2.ensures ∙ ap (with_levels (kept_of c.args.self.now.levels.apart)) c.deref-4.ensures.value) in
     let grants =
-    c.in_ok-follow-2.ensures ms l w n mutex was.owned
+    c.in_ok-follow-3.ensures ms l w n mutex was.owned
     (λ m e. c.off_of_owner-off.ensures (followed_by ms l) m e w off) tracks.grants in
     record {
       world = w;
@@ -73,13 +85,14 @@ returns c ms tracks may =
       waiting = AreWaits-after (now ms) l tracks.waiting;
       number = n;
       starts =
-          c.in_ok-follow-4.ensures ms l w n thread was.waits
+          c.in_ok-follow-5.ensures ms l w n thread was.waits
           (λ t e. c.got_by-got.ensures t e ∙ ap (λ (w : World). gets w.state t) w) grants tracks.starts;
       opens = opens;
-      blocks = c.in_ok-follow-3.ensures ms l w n thread was.blocked tracks.blocks;
+      blocks = c.in_ok-follow-4.ensures ms l w n thread was.blocked tracks.blocks;
       grants = grants;
       off_times = off;
-      runs = c.in_ok-follow.ensures.kept ms l before.threads w n changes tracks.runs;
+      levels = levels;
+      runs = c.in_ok-follow.ensures.kept ms l c.in_ok-threads.threads.items w n changes tracks.runs;
       sections = c.in_ok-end_section.ensures ms l w mutex was.owned tracks.grants off tracks.sections;
       nests = c.in_ok-put_nests.ensures ms l tracks.world n thread asked tracks.grants tracks.nests;
       written =
@@ -89,5 +102,5 @@ returns c ms tracks may =
           subst P (sym c.in_ok-self.ensures)
           (subst Q (sym c.in_ok-self-2.ensures)
           (written_after ms l _ _ c.follow-2.new.out.items _ _ c.in_ok-ended.ended tracks.written put
-          (c.in_ok-follow.ensures.text ms l before.threads w n changes tracks.runs)));
+          (c.in_ok-follow.ensures.text ms l c.in_ok-threads.threads.items w n changes tracks.runs)));
     }
