@@ -312,7 +312,8 @@ def real(folder):
         if not shutil.which(name):
             skip(f"the facts of {name} are a text", "it isn't installed")
             continue
-        _, log = recorded(folder, name, *words, text=False)
+        options = ["--size", "1"] if name == "pi_stress" else []  # it locks as often as it can
+        _, log = recorded(folder, name, *words, options=options, text=False)
         check(f"the facts of {name} are a text", Report(log).fault())
 
 
