@@ -31,8 +31,12 @@ same_word word name true long e =
     ∙ ap (λ t. name ++ t) (drop_all (length name) word (omega arith))
     ∙ append-nil name))
 same_word word name false long e = sym (eq_other word name (λ same.
-    let bad : false ≡ true = (starts_is Decides-eqb word name false e).1 [] (same ∙ sym (append-nil name)) in cc))
+    let bad : false ≡ true =
+    (starts_is Decides-eqb word name false e).1 [] (same ∙ sym (append-nil name)) in cc))
 
 -- words of other lengths are others
-pub longer_other : (word name : List ℕ) → (length word ≡ length name → ⊥) → bytes_eq word name ≡ false
+pub longer_other :
+    (word name : List ℕ)
+    → (length word ≡ length name → ⊥)
+    → bytes_eq word name ≡ false
 longer_other word name ne = eq_other word name (λ e. ne (ap length e))

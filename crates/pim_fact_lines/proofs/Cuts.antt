@@ -1,5 +1,6 @@
 -- Bytes, cut at their first space.
-use Rattle.std.proofs.Common.{◌≡◌, ℕ, ◌+◌, ◌<◌, Bool, true, false, List, [], ◌∷◌, length, take, drop, get_or, Some, None}
+use Rattle.std.proofs.Common.{◌≡◌, ℕ, ◌+◌, ◌<◌, Bool, true, false, List, [], ◌∷◌, length, take}
+use Rattle.std.proofs.Common.{drop, get_or, Some, None}
 use Rattle.std.proofs.Common.{arith, refl, sym, ap, ltb}
 use Rattle.std.specs.List.{slice_split, position, position_or_len}
 use Rattle.std.proofs.lemmas.Bool.{lt-ltb, le-ltb}
@@ -18,7 +19,8 @@ pub found_at :
     → p (get_or xs i 0) ≡ true
     → Some i ≡ position p xs
 found_at p xs i inside below here =
-    let place : position_or_len p xs ≡ i = position_or_len_is p xs i 0 (omega arith) below (λ _. here) in
+    let place : position_or_len p xs ≡ i =
+    position_or_len_is p xs i 0 (omega arith) below (λ _. here) in
     let test : ltb (position_or_len p xs) (length xs) ≡ true = lt-ltb _ _ (omega arith) in
     rw test (ap (λ k. Some k) (sym place))
 

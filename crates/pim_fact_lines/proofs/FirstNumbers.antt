@@ -1,6 +1,8 @@
 -- The number that the first word of bytes spells.
-use Rattle.std.proofs.Common.{◌≡◌, ◌∙◌, ℕ, ◌+◌, ◌<◌, ◌≤◌, ◌^◌, List, [], ◌∷◌, Option, Some, None, inl, inr}
-use Rattle.std.proofs.Common.{length, take, drop, get_or, arith, sym, ap, subst, codes, Bool, false, true, refl, eqb}
+use Rattle.std.proofs.Common.{◌≡◌, ◌∙◌, ℕ, ◌+◌, ◌<◌, ◌≤◌, ◌^◌, List, [], ◌∷◌, Option, Some, None}
+use Rattle.std.proofs.Common.{inl, inr}
+use Rattle.std.proofs.Common.{length, take, drop, get_or, arith, sym, ap, subst, codes, Bool, false}
+use Rattle.std.proofs.Common.{true, refl, eqb}
 use Rattle.std.specs.List.{position}
 use Rattle.std.specs.Option.{option_map}
 use Rattle.std.specs.Int.{IsInRange}
@@ -11,7 +13,8 @@ use Rattle.std.proofs.lemmas.List.{take-take, take_all, get_or-take, length-take
 use Rattle.std.proofs.lemmas.List.Sums.{passes_at_first}
 use Rattle.pim_fact_lines.specs.Words.{words, number_in, SPACE}
 use Rattle.pim_fact_lines.specs.Lines.{number_first}
-use Rattle.pim_fact_lines.proofs.Cuts.{NoneBelow, found_at, found_nowhere, split_at_place, split_nowhere}
+use Rattle.pim_fact_lines.proofs.Cuts.{NoneBelow, found_at, found_nowhere, split_at_place}
+use Rattle.pim_fact_lines.proofs.Cuts.{split_nowhere}
 use Rattle.pim_fact_lines.proofs.Numbers.{none_first, none_digit, none_high, some_digits}
 
 abbrev is_space : ℕ → Bool
@@ -42,13 +45,21 @@ NoSpace bytes place = (k : ℕ) → k ≤ place → get_or bytes k 0 ≡ SPACE �
 position_inside : (bytes : List ℕ) (i : ℕ) → position is_space bytes ≡ Some i → i < length bytes
 position_inside bytes i e = grind arith
 
-position_passes : (bytes : List ℕ) (i : ℕ) → position is_space bytes ≡ Some i → is_space (get_or bytes i 0) ≡ true
+position_passes :
+    (bytes : List ℕ) (i : ℕ)
+    → position is_space bytes ≡ Some i
+    → is_space (get_or bytes i 0) ≡ true
 position_passes bytes i e = grind (arith, passes_at_first)
 
 -- the first space is after this place
-later_space : (bytes : List ℕ) (place i : ℕ) → NoSpace bytes place → position is_space bytes ≡ Some i → place < i
+later_space :
+    (bytes : List ℕ) (place i : ℕ)
+    → NoSpace bytes place
+    → position is_space bytes ≡ Some i
+    → place < i
 later_space bytes place i other e =
-    let space : get_or bytes i 0 ≡ SPACE = eqb-true _ _ (position_passes bytes i e) in elim (cases_order place i) [
+    let space : get_or bytes i 0 ≡ SPACE =
+    eqb-true _ _ (position_passes bytes i e) in elim (cases_order place i) [
       | inl same ↦ absurd (other i (omega arith) space)
       | inr (inl before) ↦ before
       | inr (inr after) ↦ absurd (other i (omega arith) space)
@@ -75,9 +86,11 @@ none_within bytes place inside other none = split (position is_space bytes) refl
     split (Some i) e =
         let cut = split_at_place is_space bytes i e in
         let later : place < i = later_space bytes place i other e in
-        let size : length (take i bytes) ≡ i = length-take-le i bytes (omega (arith, position_inside bytes i e)) in
+        let size : length (take i bytes) ≡ i =
+        length-take-le i bytes (omega (arith, position_inside bytes i e)) in
         first_none bytes (take i bytes) (words (drop (i + 1) bytes)) cut
-        (none (take i bytes) (words (drop (i + 1) bytes)) cut (omega arith) (get_or-take i bytes place 0 later)
+        (none (take i bytes)
+        (words (drop (i + 1) bytes)) cut (omega arith) (get_or-take i bytes place 0 later)
         (take-take place i bytes (omega arith)))
 
 -- ---- a number that begins with 0, or with none of the digits
@@ -96,7 +109,8 @@ none_padded bytes w ws some zero cut other =
     let bad : get_or bytes 0 0 ≡ SPACE = (rw same at space) in omega arith)
     (λ v vs is long first _.
     let same : v ≡ w = cc in
-    none_first v (ap (λ u. bytes_eq u (codes "0")) same ∙ other) (λ more. omega (arith, more.1, first, zero)))
+    none_first v (ap (λ u. bytes_eq u (codes "0")) same ∙ other)
+    (λ more. omega (arith, more.1, first, zero)))
 
 no_digits : None ≡ number_in []
 no_digits = none_first [] refl (λ more. omega (arith, more.0))
@@ -108,7 +122,8 @@ none_low (b ∷ bytes) low = split (eqb b SPACE) refl
     split : (space : Bool) → eqb b SPACE ≡ space → None ≡ number_first (words (b ∷ bytes))
     split true e = first_none (b ∷ bytes) [] (words bytes) (rw e refl) no_digits
     split false e =
-        let other : b ≡ SPACE → ⊥ = λ space. let bad : true ≡ false = sym (eq-eqb _ _ space) ∙ e in cc in
+        let other : b ≡ SPACE → ⊥ =
+        λ space. let bad : true ≡ false = sym (eq-eqb _ _ space) ∙ e in cc in
         none_within (b ∷ bytes) 0 (omega arith)
         (λ k first space. let zero : k ≡ 0 = omega arith in other (rw zero at space))
         (λ v vs is long first _. none_digit v 0 long (λ digit. omega (arith, digit, first, low)))
@@ -142,7 +157,8 @@ module _ (bytes : List ℕ) (place : ℕ) (digits : Digits bytes place) where
       → None ≡ number_first (words bytes)
   none_other inside other bad =
       none_within bytes place inside (no_space other)
-      (λ w ws cut long same _. none_digit w place long (λ digit. bad (subst (λ b. IsInRange 48 57 b) same digit)))
+      (λ w ws cut long same _.
+      none_digit w place long (λ digit. bad (subst (λ b. IsInRange 48 57 b) same digit)))
 
   -- one more after too many
   pub none_long :
@@ -154,11 +170,13 @@ module _ (bytes : List ℕ) (place : ℕ) (digits : Digits bytes place) where
       → None ≡ number_first (words bytes)
   none_long value inside other is high =
       none_within bytes place inside (no_space other)
-      (λ w ws cut long same front. none_high w place value long (is ∙ ap (digits_value 10) (sym front)) high)
+      (λ w ws cut long same front.
+      none_high w place value long (is ∙ ap (digits_value 10) (sym front)) high)
 
   not_first : 49 ≤ get_or bytes 0 0 → get_or bytes place 0 ≡ SPACE → 0 < place
   not_first first space = elim (cases_order 0 place) [
-    | inl same ↦ let bad : get_or bytes 0 0 ≡ SPACE = ap (λ n. get_or bytes n 0) same ∙ space in absurd (omega arith)
+    | inl same ↦ let bad : get_or bytes 0 0 ≡ SPACE =
+        ap (λ n. get_or bytes n 0) same ∙ space in absurd (omega arith)
     | inr (inl before) ↦ before
     | inr (inr after) ↦ absurd (omega arith)
   ]
@@ -178,7 +196,8 @@ module _ (bytes : List ℕ) (place : ℕ) (digits : Digits bytes place) where
       let some : 0 < place = not_first first space in
       let same : get_or w 0 0 ≡ get_or bytes 0 0 = get_or-take place bytes 0 0 some in
       let at = found_at is_space bytes place inside no_space_before (eq-eqb _ _ space) in
-      first_some bytes w (words (drop (place + 1) bytes)) value (split_at_place is_space bytes place (sym at))
+      first_some bytes w
+      (words (drop (place + 1) bytes)) value (split_at_place is_space bytes place (sym at))
       (some_digits w value (omega arith) (omega arith) small
       (λ k h.
       let below : k < place = omega arith in
@@ -195,7 +214,8 @@ module _ (bytes : List ℕ) (place : ℕ) (digits : Digits bytes place) where
       → value ≡ digits_value 10 (take place bytes)
       → Some (value, []) ≡ number_first (words bytes)
   some_all value end some first small is =
-      let nowhere = found_nowhere is_space bytes (λ k h. no_space_before k (omega (arith, h, end))) in
+      let nowhere =
+      found_nowhere is_space bytes (λ k h. no_space_before k (omega (arith, h, end))) in
       first_some bytes bytes [] value (split_nowhere is_space bytes (sym nowhere))
       (some_digits bytes value some first small (λ k h. digits k (omega (arith, h, end)))
       (is ∙ ap (digits_value 10) (take_all place bytes (omega arith))))

@@ -1,5 +1,6 @@
 -- Names and places: words at the end of a line.
-use Rattle.std.proofs.Common.{◌≡◌, ℕ, suc, ◌<◌, ◌≤◌, List, [], ◌∷◌, Bool, true, false, length, get_or}
+use Rattle.std.proofs.Common.{◌≡◌, ℕ, suc, ◌<◌, ◌≤◌, List, [], ◌∷◌, Bool, true, false, length}
+use Rattle.std.proofs.Common.{get_or}
 use Rattle.std.proofs.Common.{leb}
 use Rattle.std.proofs.Common.{arith, refl, sym, ap, ◌∙◌, eqb}
 use Rattle.std.specs.List.{list_all, join_with_byte}
@@ -70,10 +71,16 @@ some_word bytes e =
 pub one_name : (bytes : List ℕ) → is_name bytes ≡ is_one_name (words bytes)
 one_name bytes = split (is_name bytes) refl (words bytes) refl
   where
-    split : (b : Bool) → is_name bytes ≡ b → (ws : List (List ℕ)) → words bytes ≡ ws → is_name bytes ≡ is_one_name (words bytes)
+    split :
+        (b : Bool)
+        → is_name bytes ≡ b
+        → (ws : List (List ℕ))
+        → words bytes ≡ ws
+        → is_name bytes ≡ is_one_name (words bytes)
     split true is ws e = rw (one_word bytes (name_signs bytes is)) refl
     split false is [] e = absurd (some_word bytes e)
     split false is (w ∷ []) e =
-        let alone : bytes ≡ w = sym (join_with_byte-slice_split SPACE bytes) ∙ ap (join_with_byte SPACE) e in
+        let alone : bytes ≡ w =
+        sym (join_with_byte-slice_split SPACE bytes) ∙ ap (join_with_byte SPACE) e in
         rw e (ap is_name alone)
     split false is (w ∷ v ∷ ws) e = rw e is

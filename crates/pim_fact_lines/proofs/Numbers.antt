@@ -1,6 +1,7 @@
 -- Words that spell numbers.
 use Rattle.std.proofs.Common.{◌≡◌, ◌∙◌, ℕ, ◌+◌, ◌*◌, ◌<◌, ◌≤◌, ◌^◌, List, Some, None}
-use Rattle.std.proofs.Common.{length, take, get_or, arith, sym, ap, codes, Bool, false, true, refl, zero, suc, ltb}
+use Rattle.std.proofs.Common.{length, take, get_or, arith, sym, ap, codes, Bool, false, true, refl}
+use Rattle.std.proofs.Common.{zero, suc, ltb}
 use Rattle.std.proofs.lemmas.Bool.{lt-ltb, ltb-true}
 use Rattle.std.specs.Char.{digit_value}
 use Rattle.std.specs.Fmt.{decimal}
@@ -34,7 +35,8 @@ number_in-some word n is =
 
 number_in-none : (word : List ℕ) → ((n : ℕ) → Spells word n → ⊥) → None ≡ number_in word
 number_in-none word none =
-    sym (spelled (ltb (digits_value 10 word) (10 ^ 19)) (bytes_eq word (decimal (digits_value 10 word))) refl refl)
+    sym (spelled (ltb (digits_value 10 word) (10 ^ 19))
+    (bytes_eq word (decimal (digits_value 10 word))) refl refl)
   where
     spelled :
         (small same : Bool)
@@ -71,7 +73,10 @@ digit_of_number n word i is inside =
     rw is.1 digit
 
 -- the digits of a number that come first are no larger number
-front_of_number : (n : ℕ) (word : List ℕ) (i : ℕ) → Spells word n → digits_value 10 (take i word) ≤ n
+front_of_number :
+    (n : ℕ) (word : List ℕ) (i : ℕ)
+    → Spells word n
+    → digits_value 10 (take i word) ≤ n
 front_of_number n word i is =
     let front = digits_value-take-le 10 word i (omega arith) in
     let whole : digits_value 10 word ≡ n =
@@ -94,7 +99,8 @@ value_more word i value digit inside before more =
 
 -- 0 has one spelling
 not_zero : (word : List ℕ) → bytes_eq word (codes "0") ≡ false → (n : ℕ) → Spells word n → 0 < n
-not_zero word other zero is = absurd (other_ne word (codes "0") other (is.1 ∙ decimal_digit 0 (omega arith)))
+not_zero word other zero is =
+    absurd (other_ne word (codes "0") other (is.1 ∙ decimal_digit 0 (omega arith)))
 not_zero word other (suc n) is = omega arith
 
 pub none_first :
@@ -106,8 +112,12 @@ none_first word other bad = number_in-none word (λ n is.
     let first = first_of_number n word is (not_zero word other n is) in bad (first.0, first.1))
 
 pub none_digit :
-    (word : List ℕ) (i : ℕ) → i < length word → (IsInRange 48 57 (get_or word i 0) → ⊥) → None ≡ number_in word
-none_digit word i inside bad = number_in-none word (λ n is. bad (digit_of_number n word i is inside))
+    (word : List ℕ) (i : ℕ)
+    → i < length word
+    → (IsInRange 48 57 (get_or word i 0) → ⊥)
+    → None ≡ number_in word
+none_digit word i inside bad =
+    number_in-none word (λ n is. bad (digit_of_number n word i is inside))
 
 pub none_high :
     (word : List ℕ) (i value : ℕ)
@@ -133,8 +143,11 @@ pub some_digits :
 some_digits word n long first small each value =
     let digits : AllDigits 10 word = (numerals_by_value _ tells_by_index).to word each in
     let spells : decimal (digits_value 10 word) ≡ word =
-    decimal-digits_value numerals word digits long (λ zero. absurd (omega arith)) (omega (arith, small, value)) in
+    decimal-digits_value numerals word digits long
+    (λ zero. absurd (omega arith)) (omega (arith, small, value)) in
     number_in-some word n (small, sym spells ∙ ap decimal (sym value))
 
 pub some_zero : (word : List ℕ) → bytes_eq word (codes "0") ≡ true → Some 0 ≡ number_in word
-some_zero word e = number_in-some word 0 (omega arith, same_eq word (codes "0") e ∙ sym (decimal_digit 0 (omega arith)))
+some_zero word e =
+    number_in-some word 0
+    (omega arith, same_eq word (codes "0") e ∙ sym (decimal_digit 0 (omega arith)))

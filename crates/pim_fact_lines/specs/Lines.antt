@@ -3,7 +3,8 @@ use Rattle.std.specs.Prelude.{ℕ, List, [], ◌∷◌, length, codes, Bool, tru
 use Rattle.std.specs.Prelude.{Option, Some, None, if◌then◌else◌}
 use Rattle.std.specs.Option.{option_map, option_map_or, option_and_then}
 use Rattle.std.specs.List.{list_all}
-use Rattle.pim_fact_lines.specs.declared.line.TheConstants.{MAX_THREAD, MAX_NUMBER, MAX_LEVEL, MAX_CPU}
+use Rattle.pim_fact_lines.specs.declared.line.TheConstants.{MAX_THREAD, MAX_NUMBER, MAX_LEVEL}
+use Rattle.pim_fact_lines.specs.declared.line.TheConstants.{MAX_CPU}
 use Rattle.pim_fact_lines.specs.declared.line.Protocol.{Protocol}
 use Rattle.pim_fact_lines.specs.declared.line.Protocol.TheVariants as protocols
 use Rattle.pim_fact_lines.specs.declared.line.Ended.{Ended}
@@ -79,18 +80,21 @@ protocol_first [] = None
 protocol_first (w ∷ ws) =
     if is_word w (codes "none") then Some (protocols.None, ws)
     else if is_word w (codes "inherit") then Some (protocols.Inherit, ws)
-    else if is_word w (codes "protect") then option_map (λ level. (protocols.Protect level.0, level.1)) (level_first ws)
+    else if is_word w (codes "protect")
+    then option_map (λ level. (protocols.Protect level.0, level.1)) (level_first ws)
     else None
 
 -- PROTOCOL NAME
 abbrev pub protocol_in : ℕ → Bool → List (List ℕ) → Option Line
 protocol_in m is_recursive ws =
-    given (protocol_first ws) (λ protocol. line_if (is_one_name protocol.1) (lines.Mutex m is_recursive protocol.0))
+    given (protocol_first ws)
+    (λ protocol. line_if (is_one_name protocol.1) (lines.Mutex m is_recursive protocol.0))
 
 -- `recursive` PROTOCOL NAME, or PROTOCOL NAME
 abbrev pub recursion_in : ℕ → List (List ℕ) → Option Line
 recursion_in m [] = None
-recursion_in m (w ∷ ws) = if is_word w (codes "recursive") then protocol_in m true ws else protocol_in m false (w ∷ ws)
+recursion_in m (w ∷ ws) =
+    if is_word w (codes "recursive") then protocol_in m true ws else protocol_in m false (w ∷ ws)
 
 -- after `mutex`: NUMBER [`recursive`] PROTOCOL NAME
 abbrev pub mutex_in : List (List ℕ) → Option Line
@@ -132,7 +136,8 @@ what_of_level what ws = option_map (λ level. (what level.0, level.1)) (level_fi
 -- after `ceiling`: MUTEX LEVEL
 abbrev pub ceiling_first : List (List ℕ) → First What
 ceiling_first ws =
-    given (positive_first ws) (λ m. option_map (λ level. (whats.Ceiling m.0 level.0, level.1)) (level_first m.1))
+    given (positive_first ws)
+    (λ m. option_map (λ level. (whats.Ceiling m.0 level.0, level.1)) (level_first m.1))
 
 -- `by` THREAD, `timed-out`, `failed`, or nothing of this kind
 abbrev pub ended_first : List (List ℕ) → First Ended
@@ -146,7 +151,8 @@ ended_first (w ∷ ws) =
 -- after `resumes`: OBJECT and how the wait ended
 abbrev pub resumes_first : List (List ℕ) → First What
 resumes_first ws =
-    given (positive_first ws) (λ x. option_map (λ ended. (whats.Resumes x.0 ended.0, ended.1)) (ended_first x.1))
+    given (positive_first ws)
+    (λ x. option_map (λ ended. (whats.Resumes x.0 ended.0, ended.1)) (ended_first x.1))
 
 -- after `on`: CPU
 abbrev pub on_first : List (List ℕ) → First What

@@ -16,10 +16,12 @@ words bytes = slice_split (λ b. b == SPACE) bytes
 abbrev pub is_word : List ℕ → List ℕ → Bool
 is_word w name = bytes_eq w name
 
--- the number of at most 19 digits that a word spells in decimal; a leading zero isn't in the spelling of a number
+-- the number of at most 19 digits that a word spells in decimal; a leading zero isn't in the
+-- spelling of a number
 abbrev pub number_in : List ℕ → Option ℕ
 number_in w =
-    if nat_lt (digits_value 10 w) (10 ^ 19) && bytes_eq w (decimal (digits_value 10 w)) then Some (digits_value 10 w)
+    if nat_lt (digits_value 10 w) (10 ^ 19) && bytes_eq w (decimal (digits_value 10 w))
+    then Some (digits_value 10 w)
     else None
 
 -- a letter, a digit or a sign of ASCII
@@ -33,7 +35,8 @@ is_name w = nat_le 1 (length w) && nat_le (length w) 64 && list_all is_sign w
 -- a word with which a fact could go on in place of a place
 abbrev pub is_reserved : List ℕ → Bool
 is_reserved w =
-    is_word w (codes "by") || is_word w (codes "failed") || is_word w (codes "of") || is_word w (codes "timed-out")
+    is_word w (codes "by") || is_word w (codes "failed") || is_word w (codes "of")
+    || is_word w (codes "timed-out")
 
 -- a place is a name, but not reserved
 abbrev pub is_place : List ℕ → Bool

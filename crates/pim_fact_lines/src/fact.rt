@@ -1,15 +1,17 @@
 //! What a fact says after its time and its thread.
 //!
-//! A `let .. else` that returns `None` is in place of a `?`: the generated proof can't pass a tuple of a reference and of a
-//! type with an `impl Model` by value.
+//! A `let .. else` that returns `None` is in place of a `?`: the generated proof can't pass a tuple
+//! of a reference and of a type with an `impl Model` by value.
 ghost use Rattle.std.specs.Prelude.{◌≡◌};
-ghost use Rattle.pim_fact_lines.specs.Lines.{what_first, other_first, ceiling_first, resumes_first, ended_first, on_first, off_first};
+ghost use Rattle.pim_fact_lines.specs.Lines.{what_first, other_first, ceiling_first, resumes_first};
+ghost use Rattle.pim_fact_lines.specs.Lines.{ended_first, on_first, off_first};
 ghost use Rattle.pim_fact_lines.specs.Reading.{words_after, first_of};
 
 use crate::line::{CpuNo, Ended, MAX_CPU, MutexNo, ObjectNo, What};
 use crate::word::{cut, cut_level, cut_positive, cut_thread, cut_within, is};
 
-/// Returns what the words that are left of a line say happened, and the bytes after it; or `None` if they say nothing.
+/// Returns what the words that are left of a line say happened, and the bytes after it; or `None`
+/// if they say nothing.
 pub(crate) fn cut_what(tail: Option<&[u8]>) -> Option<(What, Option<&[u8]>)>
     ensures { first_of result ≡ what_first (words_after tail.entry) }
 {
@@ -40,7 +42,8 @@ pub(crate) fn cut_what(tail: Option<&[u8]>) -> Option<(What, Option<&[u8]>)>
     cut_other(word, rest)
 }
 
-/// Returns what else this word and the words after it say happened, and the bytes after it; or `None` if they say nothing.
+/// Returns what else this word and the words after it say happened, and the bytes after it; or
+/// `None` if they say nothing.
 fn cut_other<'a>(word: &[u8], tail: Option<&'a [u8]>) -> Option<(What, Option<&'a [u8]>)>
     ensures { first_of result ≡ other_first word.now (words_after tail.entry) }
 {

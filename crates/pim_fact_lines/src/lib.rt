@@ -1,8 +1,9 @@
 //! Facts as text: what a line says.
 //!
-//! [`next_line`] splits a text into its lines, [`is_header`] tests the first of them, and [`read_line`] reads any other.
-//! It is proved that a [`Line`] is returned for exactly the lines of specs/Lines.antt, which is the table of docs/FACTS.md
-//! in definitions. For a line that isn't one of them [`why_not`] says which form it should have; this is tested.
+//! [`next_line`] splits a text into its lines, [`is_header`] tests the first of them, and
+//! [`read_line`] reads any other. It is proved that a [`Line`] is returned for exactly the lines of
+//! specs/Lines.antt, which is the table of docs/FACTS.md in definitions. For a line that isn't one
+//! of them [`why_not`] says which form it should have; this is tested.
 //!
 //! ```text
 //! let (first, rest) = next_line(b"facts 1\n500 1 granted 7 main.c:41\n"); // is_header(first)

@@ -32,7 +32,8 @@ impl Model for ThreadNo {
     ghost inverse = { λ n. record { 0 = n } };
 }
 
-/// The number of a mutex, 1 to 9,999,999,999,999,999,999. Mutexes and other objects are numbered apart.
+/// The number of a mutex, 1 to 9,999,999,999,999,999,999. Mutexes and other objects are numbered
+/// apart.
 ///
 /// In contracts its value is the number itself.
 #[derive(Clone, Copy, PartialEq, Eq)]
@@ -80,8 +81,8 @@ impl Model for CpuNo {
     ghost inverse = { λ n. record { 0 = n } };
 }
 
-/// A level, 0 to 100; the higher is the more urgent. Levels 1 to 99 are the priorities of SCHED_FIFO, 0 is below these, and
-/// 100 is above them.
+/// A level, 0 to 100; the higher is the more urgent. Levels 1 to 99 are the priorities of
+/// SCHED_FIFO, 0 is below these, and 100 is above them.
 ///
 /// In contracts its value is the number itself.
 #[derive(Clone, Copy, PartialEq, Eq, PartialOrd, Ord)]

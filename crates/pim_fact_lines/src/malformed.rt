@@ -36,15 +36,18 @@ impl fmt::Display for Malformed {
                 "it should be: object NUMBER semaphore|rwlock|barrier|thread|condition|futex NAME",
             Malformed::Unseen => "it should be: unseen WORD ..",
             Malformed::Fact =>
-                "it should be: TIME THREAD granted|took|waits|gave-up|released MUTEX, priority|runs LEVEL, ceiling MUTEX LEVEL, blocks OBJECT, resumes OBJECT [by THREAD|timed-out|failed], on CPU or off ready|asleep, and up to 16 places",
+                "it should be: TIME THREAD granted|took|waits|gave-up|released MUTEX, \
+                priority|runs LEVEL, ceiling MUTEX LEVEL, blocks OBJECT, \
+                resumes OBJECT [by THREAD|timed-out|failed], on CPU or off ready|asleep, \
+                and up to 16 places",
             Malformed::Lost => "it should be: TIME lost NUMBER",
             Malformed::End => "it should be: TIME end",
         })
     }
 }
 
-/// Returns why bytes that spell no line don't: how they should begin, or else the form that lines with their first words
-/// have.
+/// Returns why bytes that spell no line don't: how they should begin, or else the form that lines
+/// with their first words have.
 pub fn why_not(bytes: &[u8]) -> Malformed {
     let (first, rest) = cut(bytes);
     if is(first, "thread") {

@@ -1,9 +1,11 @@
 //! One line of a text, after the first.
 //!
-//! A `let .. else` that returns `None` is in place of a `?`: the generated proof can't pass a tuple of a reference and of a
-//! type with an `impl Model` by value.
+//! A `let .. else` that returns `None` is in place of a `?`: the generated proof can't pass a tuple
+//! of a reference and of a type with an `impl Model` by value.
 ghost use Rattle.std.specs.Prelude.{◌≡◌};
-ghost use Rattle.pim_fact_lines.specs.Lines.{line_of, declaration_in, thread_in, mutex_in, protocol_in, protocol_first, object_in, timed_in, fact_in};
+ghost use Rattle.pim_fact_lines.specs.Lines.{line_of, declaration_in, thread_in, mutex_in};
+ghost use Rattle.pim_fact_lines.specs.Lines.{protocol_in, protocol_first, object_in, timed_in};
+ghost use Rattle.pim_fact_lines.specs.Lines.{fact_in};
 ghost use Rattle.pim_fact_lines.specs.Words.{words, is_kind};
 ghost use Rattle.pim_fact_lines.specs.Reading.{words_after, first_of};
 
@@ -90,7 +92,8 @@ fn read_protocol(number: u64, is_recursive: bool, tail: Option<&[u8]>) -> Option
     })
 }
 
-/// Returns the protocol that the words begin with, and the bytes after it; or `None` if they begin with none.
+/// Returns the protocol that the words begin with, and the bytes after it; or `None` if they begin
+/// with none.
 fn cut_protocol(tail: Option<&[u8]>) -> Option<(Protocol, Option<&[u8]>)>
     ensures { first_of result ≡ protocol_first (words_after tail.entry) }
 {

@@ -1,14 +1,17 @@
 //! The words of a line, and the numbers that they spell.
-ghost use Rattle.std.specs.Prelude.{◌≡◌, ◌<◌, ◌≤◌, ◌==◌, ◌∷◌, IfSome, MatchOption, length, position, slice_index};
+ghost use Rattle.std.specs.Prelude.{◌≡◌, ◌<◌, ◌≤◌, ◌==◌, ◌∷◌, IfSome, MatchOption, length};
+ghost use Rattle.std.specs.Prelude.{position, slice_index};
 ghost use Rattle.std.specs.Char.{digit_value};
 ghost use Rattle.std.specs.Int.{IsInRange};
 ghost use Rattle.pim_fact_lines.specs.Words.{words, is_word};
-ghost use Rattle.pim_fact_lines.specs.Lines.{number_first, number_within, thread_first, positive_first, level_first};
+ghost use Rattle.pim_fact_lines.specs.Lines.{number_first, number_within, thread_first};
+ghost use Rattle.pim_fact_lines.specs.Lines.{positive_first, level_first};
 ghost use Rattle.pim_fact_lines.specs.Reading.{words_after, first_of};
 
 use crate::line::{Level, MAX_NUMBER, MAX_THREAD, ThreadNo};
 
-/// Returns the first word, and the bytes after the space that ends it; all bytes and `None` if there is no space.
+/// Returns the first word, and the bytes after the space that ends it; all bytes and `None` if
+/// there is no space.
 pub(crate) fn cut(bytes: &[u8]) -> (&[u8], Option<&[u8]>)
     ensures { words bytes.now ≡ result.0.now ∷ words_after result.1 }
 {
@@ -40,8 +43,8 @@ pub(crate) fn is(word: &[u8], name: &str) -> bool
     word.len() == name.len() && word.starts_with(name)
 }
 
-/// Cuts off the first word of what is left of a line. Returns the number of a thread that it spells, and the bytes after
-/// it; or `None` if it spells none.
+/// Cuts off the first word of what is left of a line. Returns the number of a thread that it
+/// spells, and the bytes after it; or `None` if it spells none.
 pub(crate) fn cut_thread(tail: Option<&[u8]>) -> Option<(ThreadNo, Option<&[u8]>)>
     ensures { first_of result ≡ thread_first (words_after tail.entry) }
 {

@@ -9,15 +9,18 @@ returns-in_default c =
 
 pub returns-then-not-is_name : goal.returns-then-not-is_name
 returns-then-not-is_name c =
-    other_next is_name _ c.loop-count._count c.loop-count.left c.loop-count.invariant c.in-Some.bytes _ _
+    other_next
+    is_name _ c.loop-count._count c.loop-count.left c.loop-count.invariant c.in-Some.bytes _ _
     c.in-Some.is c.cut.ensures (sym c.is_name.ensures ∙ c.if-not-is_name.true)
 
 pub loop-count-preserved : goal.loop-count-preserved
 loop-count-preserved c =
-    one_more is_name _ c.loop-count._count c.loop-count.left c.loop-count.invariant c.in-Some.bytes _ c.cut.result.1
+    one_more is_name _ c.loop-count._count
+    c.loop-count.left c.loop-count.invariant c.in-Some.bytes _ c.cut.result.1
     c.in-Some.is c.cut.ensures (omega arith) (sym c.is_name.ensures ∙ c.if-not-is_name.false)
 
 pub returns : goal.returns
 returns c =
-    after_last is_name _ c.loop-count._count c.loop-count.left c.loop-count.invariant _ (omega arith)
+    after_last is_name _ c.loop-count._count c.loop-count.left c.loop-count.invariant _
+    (omega arith)
     c.is_none.ensures

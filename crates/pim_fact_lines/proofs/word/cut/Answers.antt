@@ -5,7 +5,8 @@ use Rattle.pim_fact_lines.proofs.word.cut.Goals as goal
 
 pub returns-in-Some : goal.returns-in-Some
 returns-in-Some c =
-    rw take_rest (split_at_place _ c.args.bytes.now c.in-Some.place (sym c.place_of.ensures ∙ c.in-Some.is))
+    rw take_rest
+    (split_at_place _ c.args.bytes.now c.in-Some.place (sym c.place_of.ensures ∙ c.in-Some.is))
 
 pub returns-in-None : goal.returns-in-None
 returns-in-None c = split_nowhere _ c.args.bytes.now (sym c.place_of.ensures ∙ c.in-None.is)

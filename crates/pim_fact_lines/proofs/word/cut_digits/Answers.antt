@@ -8,19 +8,22 @@ pub returns-then-bytes-place-eq32 : goal.returns-then-bytes-place-eq32
 returns-then-bytes-place-eq32 c =
     let so_far = c.loop-place.invariant in
     rw take_rest
-    (some_before c.args.bytes.now c.loop-place.place so_far.digits c.loop-place.value c.loop-place-test.true
+    (some_before
+    c.args.bytes.now c.loop-place.place so_far.digits c.loop-place.value c.loop-place-test.true
     c.requires.first c.if-bytes-place-eq32.true so_far.small so_far.value)
 
 pub returns-in_err-digit : goal.returns-in_err-digit
 returns-in_err-digit c =
     rw c.from_residual.ensures
-    (none_other c.args.bytes.now c.loop-place.place c.loop-place.invariant.digits c.loop-place-test.true
+    (none_other
+    c.args.bytes.now c.loop-place.place c.loop-place.invariant.digits c.loop-place-test.true
     c.if-bytes-place-eq32.false c.in_err-digit.ensures)
 
 pub returns-then-value-gt999999999999999999 : goal.returns-then-value-gt999999999999999999
 returns-then-value-gt999999999999999999 c =
     let so_far = c.loop-place.invariant in
-    none_long c.args.bytes.now c.loop-place.place so_far.digits c.loop-place.value c.loop-place-test.true
+    none_long
+    c.args.bytes.now c.loop-place.place so_far.digits c.loop-place.value c.loop-place-test.true
     c.if-bytes-place-eq32.false so_far.value (omega arith)
 
 pub loop-place-preserved : goal.loop-place-preserved
@@ -30,7 +33,8 @@ loop-place-preserved c =
     record {
       small = omega (arith, low, c.from.ensures);
       value =
-          value_more c.args.bytes.now c.loop-place.place c.loop-place.value _ c.loop-place-test.true so_far.value
+          value_more c.args.bytes.now
+          c.loop-place.place c.loop-place.value _ c.loop-place-test.true so_far.value
           (c.from.ensures ∙ digit);
       digits = below_more _ _ so_far.digits inside;
     }
@@ -38,5 +42,6 @@ loop-place-preserved c =
 pub returns : goal.returns
 returns c =
     let so_far = c.loop-place.invariant in
-    some_all c.args.bytes.now c.loop-place.place so_far.digits c.loop-place.value (omega arith) c.requires.some
+    some_all c.args.bytes.now c.loop-place.place so_far.digits c.loop-place.value
+    (omega arith) c.requires.some
     c.requires.first so_far.small so_far.value
