@@ -1,25 +1,41 @@
 -- Lists of options with one more, and what is in a list.
-use Rattle.std.proofs.Common.{◌≡◌, ℕ, zero, suc, ◌<◌, ◌≤◌, ◌==◌, not, ◌⊎◌, Bool, true, false, cond, List, [], ◌∷◌, ◌++◌, length, get_or, Option, Some, None, refl, sym, ◌∙◌, ap, inl, inr, arith, unwrap_or, slice_get, filter}
+use Rattle.std.proofs.Common.{◌≡◌, ℕ, zero, suc, ◌<◌, ◌≤◌, ◌==◌, not, ◌⊎◌, Bool, true, false, cond}
+use Rattle.std.proofs.Common.{List, [], ◌∷◌, ◌++◌, length, get_or, Option, Some, None, refl, sym}
+use Rattle.std.proofs.Common.{◌∙◌, ap, inl, inr, arith, unwrap_or, slice_get, filter}
 use Rattle.std.proofs.lemmas.Bool.{or_cases, or_left, or_right, eqb-true, eq-eqb, ne_eqb, cases_eq}
 use Rattle.pim_base.specs.Lists.{nth, contains}
 
-slice_get-push_none : {X : Type 0} (xs : List (Option X)) (i : ℕ) → unwrap_or (slice_get (xs ++ None ∷ []) i) None ≡ unwrap_or (slice_get xs i) None
+slice_get-push_none :
+    {X : Type 0} (xs : List (Option X)) (i : ℕ)
+    → unwrap_or (slice_get (xs ++ None ∷ []) i) None ≡ unwrap_or (slice_get xs i) None
 slice_get-push_none [] zero = refl
 slice_get-push_none [] (suc i) = refl
 slice_get-push_none (x ∷ xs) zero = refl
 slice_get-push_none (x ∷ xs) (suc i) = slice_get-push_none xs i
 
-pub nth-push_none : {X : Type 0} (xs : List (Option X)) (n : ℕ) → unwrap_or (nth (xs ++ None ∷ []) n) None ≡ unwrap_or (nth xs n) None
+pub nth-push_none :
+    {X : Type 0} (xs : List (Option X)) (n : ℕ)
+    → unwrap_or (nth (xs ++ None ∷ []) n) None ≡ unwrap_or (nth xs n) None
 nth-push_none xs zero = refl
 nth-push_none xs (suc i) = slice_get-push_none xs i
 
-pub contains_cases : (x : ℕ) (xs : List ℕ) (n : ℕ) → contains (x ∷ xs) n ≡ true → (n ≡ x) ⊎ (contains xs n ≡ true)
-contains_cases x xs n h = elim (or_cases (n == x) (contains xs n) h) [ inl here ↦ inl (eqb-true n x here) | inr later ↦ inr later ]
+pub contains_cases :
+    (x : ℕ) (xs : List ℕ) (n : ℕ)
+    → contains (x ∷ xs) n ≡ true
+    → (n ≡ x) ⊎ (contains xs n ≡ true)
+contains_cases x xs n h =
+    elim (or_cases (n == x) (contains xs n) h) [
+      | inl here ↦ inl (eqb-true n x here)
+      | inr later ↦ inr later
+    ]
 
 pub contains-first : (x : ℕ) (xs : List ℕ) (n : ℕ) → n ≡ x → contains (x ∷ xs) n ≡ true
 contains-first x xs n same = or_left (n == x) (contains xs n) (eq-eqb n x same)
 
-pub contains-later : (x : ℕ) (xs : List ℕ) (n : ℕ) → contains xs n ≡ true → contains (x ∷ xs) n ≡ true
+pub contains-later :
+    (x : ℕ) (xs : List ℕ) (n : ℕ)
+    → contains xs n ≡ true
+    → contains (x ∷ xs) n ≡ true
 contains-later x xs n h = or_right (n == x) (contains xs n) h
 
 pub contains-left : (xs ys : List ℕ) (n : ℕ) → contains xs n ≡ true → contains (xs ++ ys) n ≡ true
@@ -43,7 +59,10 @@ contains-without [] out n ne h = h
 contains-without (x ∷ xs) out n ne h = elim (cases_eq x out) [
   | inl is ↦
       ap (λ b. contains (cond (not b) (x ∷ rest) rest) n) (eq-eqb x out is)
-      ∙ elim (contains_cases x xs n h) [ inl here ↦ absurd (ne (here ∙ is)) | inr later ↦ contains-without xs out n ne later ]
+      ∙ elim (contains_cases x xs n h) [
+        | inl here ↦ absurd (ne (here ∙ is))
+        | inr later ↦ contains-without xs out n ne later
+      ]
   | inr other ↦
       ap (λ b. contains (cond (not b) (x ∷ rest) rest) n) (ne_eqb x out other)
       ∙ elim (contains_cases x xs n h) [
@@ -56,7 +75,10 @@ contains-without (x ∷ xs) out n ne h = elim (cases_eq x out) [
     rest = filter (λ other. not (other == out)) xs
 
 -- where a number is in a list
-pub contains_at : (xs : List ℕ) (n : ℕ) → contains xs n ≡ true → (k : ℕ) × (k < length xs) × (get_or xs k 0 ≡ n)
+pub contains_at :
+    (xs : List ℕ) (n : ℕ)
+    → contains xs n ≡ true
+    → (k : ℕ) × (k < length xs) × (get_or xs k 0 ≡ n)
 contains_at [] n h = cc
 contains_at (x ∷ xs) n h = elim (contains_cases x xs n h) [
   | inl here ↦ (0, omega arith, sym here)
@@ -66,7 +88,8 @@ contains_at (x ∷ xs) n h = elim (contains_cases x xs n h) [
 pub contains-get_or : (xs : List ℕ) (k : ℕ) → k < length xs → contains xs (get_or xs k 0) ≡ true
 contains-get_or [] k h = absurd (omega arith)
 contains-get_or (x ∷ xs) zero h = contains-first x xs x refl
-contains-get_or (x ∷ xs) (suc k) h = contains-later x xs (get_or xs k 0) (contains-get_or xs k (omega arith))
+contains-get_or (x ∷ xs) (suc k) h =
+    contains-later x xs (get_or xs k 0) (contains-get_or xs k (omega arith))
 
 -- two tests with the same answer
 pub same_tests : (a b : Bool) → (a ≡ true → b ≡ true) → (b ≡ true → a ≡ true) → a ≡ b
@@ -84,7 +107,10 @@ past_end [] k h = omega arith
 past_end (x ∷ xs) zero h = cc
 past_end (x ∷ xs) (suc k) h = omega (arith, past_end xs k h)
 
-slice_get-left : {X : Type 0} (xs ys : List X) (k : ℕ) → k < length xs → slice_get (xs ++ ys) k ≡ slice_get xs k
+slice_get-left :
+    {X : Type 0} (xs ys : List X) (k : ℕ)
+    → k < length xs
+    → slice_get (xs ++ ys) k ≡ slice_get xs k
 slice_get-left [] ys k h = absurd (omega arith)
 slice_get-left (x ∷ xs) ys zero h = refl
 slice_get-left (x ∷ xs) ys (suc k) h = slice_get-left xs ys k (omega arith)

@@ -1,5 +1,7 @@
 -- Marks, as threads are marked and unmarked.
-use Rattle.std.proofs.Common.{◌≡◌, ℕ, zero, suc, ◌+◌, ◌<◌, ◌≤◌, ◌==◌, ◌||◌, not, Bool, true, false, cond, List, [], ◌∷◌, ◌++◌, length, get_or, Option, Some, None, refl, sym, ◌∙◌, ap, inl, inr, arith, unwrap_or, slice_get, count_by}
+use Rattle.std.proofs.Common.{◌≡◌, ℕ, zero, suc, ◌+◌, ◌<◌, ◌≤◌, ◌==◌, ◌||◌, not, Bool, true, false}
+use Rattle.std.proofs.Common.{cond, List, [], ◌∷◌, ◌++◌, length, get_or, Option, Some, None, refl}
+use Rattle.std.proofs.Common.{sym, ◌∙◌, ap, inl, inr, arith, unwrap_or, slice_get, count_by}
 use Rattle.std.proofs.lemmas.Bool.{cases_eq, ne_eqb, eq-eqb, false≢true}
 use Rattle.std.proofs.lemmas.List.Folds.{list_any-append}
 use Rattle.std.proofs.lemmas.List.Sums.{sum_by-set, sum_by_push, sum_by-cons}
@@ -9,39 +11,57 @@ use Rattle.pim_base.proofs.Places.{nth-put_same, nth-put_other, length-put, nth_
 use Rattle.pim_waits.specs.Members.{is_marked}
 use Rattle.pim_waits.proofs.Lists.{contains_at, is_false}
 
-slice_get-push_false : (marks : List Bool) (i : ℕ) → unwrap_or (slice_get (marks ++ false ∷ []) i) false ≡ unwrap_or (slice_get marks i) false
+slice_get-push_false :
+    (marks : List Bool) (i : ℕ)
+    → unwrap_or (slice_get (marks ++ false ∷ []) i) false ≡ unwrap_or (slice_get marks i) false
 slice_get-push_false [] zero = refl
 slice_get-push_false [] (suc i) = refl
 slice_get-push_false (b ∷ bs) zero = refl
 slice_get-push_false (b ∷ bs) (suc i) = slice_get-push_false bs i
 
-pub is_marked-push : (marks : List Bool) (t : ℕ) → is_marked (marks ++ false ∷ []) t ≡ is_marked marks t
+pub is_marked-push :
+    (marks : List Bool) (t : ℕ)
+    → is_marked (marks ++ false ∷ []) t ≡ is_marked marks t
 is_marked-push marks zero = refl
 is_marked-push marks (suc i) = slice_get-push_false marks i
 
 pub count-push : (marks : List Bool) → count_by not (marks ++ false ∷ []) ≡ count_by not marks + 1
 count-push marks = sum_by_push (λ b. cond (not b) 1 0) marks false
 
-pub is_marked-unmark : (marks : List Bool) (n t : ℕ) → is_marked (put marks n false) t ≡ cond (t == n) false (is_marked marks t)
+pub is_marked-unmark :
+    (marks : List Bool) (n t : ℕ)
+    → is_marked (put marks n false) t ≡ cond (t == n) false (is_marked marks t)
 is_marked-unmark marks n t = elim (cases_eq t n) [
-  | inr ne ↦ ap (λ v. unwrap_or v false) (nth-put_other marks n t false (λ e. ne (sym e))) ∙ ap (λ b. cond b false (is_marked marks t)) (sym (ne_eqb t n ne))
-  | inl same ↦ ap (is_marked (put marks n false)) same ∙ gone (nth (put marks n false) n) refl ∙ ap (λ b. cond b false (is_marked marks t)) (sym (eq-eqb t n same))
+  | inr ne ↦ ap (λ v. unwrap_or v false) (nth-put_other marks n t false (λ e. ne (sym e)))
+      ∙ ap (λ b. cond b false (is_marked marks t)) (sym (ne_eqb t n ne))
+  | inl same ↦ ap (is_marked (put marks n false)) same ∙ gone (nth (put marks n false) n) refl
+      ∙ ap (λ b. cond b false (is_marked marks t)) (sym (eq-eqb t n same))
 ]
   where
     gone : (v : Option Bool) → nth (put marks n false) n ≡ v → unwrap_or v false ≡ false
     gone None is = refl
     gone (Some b) is =
         let fits = nth_within (put marks n false) n b is in
-        let same = nth-put_same marks n false fits.0 (omega (arith, fits, length-put marks n false)) in
+        let same =
+        nth-put_same marks n false fits.0 (omega (arith, fits, length-put marks n false)) in
         cc
 
-pub is_marked-mark : (marks : List Bool) (n t : ℕ) → 1 ≤ n → n ≤ length marks → is_marked (put marks n true) t ≡ cond (t == n) true (is_marked marks t)
+pub is_marked-mark :
+    (marks : List Bool) (n t : ℕ)
+    → 1 ≤ n
+    → n ≤ length marks
+    → is_marked (put marks n true) t ≡ cond (t == n) true (is_marked marks t)
 is_marked-mark marks n t low high = elim (cases_eq t n) [
-  | inr ne ↦ ap (λ v. unwrap_or v false) (nth-put_other marks n t true (λ e. ne (sym e))) ∙ ap (λ b. cond b true (is_marked marks t)) (sym (ne_eqb t n ne))
-  | inl same ↦ ap (is_marked (put marks n true)) same ∙ ap (λ v. unwrap_or v false) (nth-put_same marks n true low high) ∙ ap (λ b. cond b true (is_marked marks t)) (sym (eq-eqb t n same))
+  | inr ne ↦ ap (λ v. unwrap_or v false) (nth-put_other marks n t true (λ e. ne (sym e)))
+      ∙ ap (λ b. cond b true (is_marked marks t)) (sym (ne_eqb t n ne))
+  | inl same ↦ ap (is_marked (put marks n true)) same ∙ ap (λ v. unwrap_or v false) (nth-put_same
+      marks n true low high) ∙ ap (λ b. cond b true (is_marked marks t)) (sym (eq-eqb t n same))
 ]
 
-pub count-mark : (marks : List Bool) (n : ℕ) → nth marks n ≡ Some false → count_by not (put marks n true) + 1 ≡ count_by not marks
+pub count-mark :
+    (marks : List Bool) (n : ℕ)
+    → nth marks n ≡ Some false
+    → count_by not (put marks n true) + 1 ≡ count_by not marks
 count-mark marks zero is = cc
 count-mark marks (suc i) is =
     omega (
@@ -50,7 +70,9 @@ count-mark marks (suc i) is =
       ap {B = ℕ} (λ b. cond (not b) 1 0) (get_or_from_slice_get marks i false false is),
     )
 
-pub contains-push_is : (xs : List ℕ) (n t : ℕ) → contains (xs ++ n ∷ []) t ≡ cond (t == n) true (contains xs t)
+pub contains-push_is :
+    (xs : List ℕ) (n t : ℕ)
+    → contains (xs ++ n ∷ []) t ≡ cond (t == n) true (contains xs t)
 contains-push_is xs n t = list_any-append (λ x. t == x) xs (n ∷ []) ∙ turn (contains xs t) (t == n)
   where
     turn : (a b : Bool) → (a || (b || false)) ≡ cond b true a
@@ -59,7 +81,10 @@ contains-push_is xs n t = list_any-append (λ x. t == x) xs (n ∷ []) ∙ turn 
     turn false true = refl
     turn false false = refl
 
-pub count-unmarked : (marks : List Bool) → ((t : ℕ) → is_marked marks t ≡ false) → count_by not marks ≡ length marks
+pub count-unmarked :
+    (marks : List Bool)
+    → ((t : ℕ) → is_marked marks t ≡ false)
+    → count_by not marks ≡ length marks
 count-unmarked [] none = refl
 count-unmarked (b ∷ bs) none =
     let first : b ≡ false = none 1 in

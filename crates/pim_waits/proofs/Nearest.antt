@@ -1,5 +1,7 @@
 -- The first mutex after a place that a thread owns, one owned mutex after another.
-use Rattle.std.proofs.Common.{◌≡◌, ℕ, ◌<◌, ◌&&◌, Bool, true, false, List, [], ◌∷◌, min, Option, Some, None, refl, sym, subst, ◌∙◌, arith, inl, inr, nat_lt, fold, if◌then◌else◌}
+use Rattle.std.proofs.Common.{◌≡◌, ℕ, ◌<◌, ◌&&◌, Bool, true, false, List, [], ◌∷◌, min, Option}
+use Rattle.std.proofs.Common.{Some, None, refl, sym, subst, ◌∙◌, arith, inl, inr, nat_lt, fold}
+use Rattle.std.proofs.Common.{if◌then◌else◌}
 use Rattle.std.specs.Option.{option_map_or}
 use Rattle.std.proofs.lemmas.Bool.Decides.{leb_tells, nat_tests}
 use Rattle.std.proofs.lemmas.Option.{same_Some}
@@ -46,12 +48,20 @@ module _ (S : State) (t after : ℕ) where
       go false e h = absurd (grind (arith, nat_tests, e, low))
 
   -- what is the next one so far is there
-  there_step : (next : Option ℕ) (m : ℕ) (b : Bool) → passes m ≡ b → ((n : ℕ) → next ≡ Some n → IsThere n) → (n : ℕ) → step b next m ≡ Some n → IsThere n
+  there_step :
+      (next : Option ℕ) (m : ℕ) (b : Bool)
+      → passes m ≡ b
+      → ((n : ℕ) → next ≡ Some n → IsThere n)
+      → (n : ℕ)
+      → step b next m ≡ Some n
+      → IsThere n
   there_step next m false h there n e = there n e
   there_step None m true h there n e = subst IsThere (same_Some m n e) (passed m h)
   there_step (Some k) m true h there n e = elim (leb_tells m k) [
-    | inl (_, le) ↦ subst IsThere (let is : min m k ≡ m = omega (arith, le) in sym is ∙ same_Some (min m k) n e) (passed m h)
-    | inr (_, gt) ↦ subst IsThere (let is : min m k ≡ k = omega (arith, gt) in sym is ∙ same_Some (min m k) n e) (there k refl)
+    | inl (_, le) ↦ subst IsThere
+        (let is : min m k ≡ m = omega (arith, le) in sym is ∙ same_Some (min m k) n e) (passed m h)
+    | inr (_, gt) ↦ subst IsThere (let is : min m k ≡ k = omega (arith, gt) in
+        sym is ∙ same_Some (min m k) n e) (there k refl)
   ]
 
   past_step : (next : Option ℕ) (m k : ℕ) (b : Bool) → IsPast next k → IsPast (step b next m) k
@@ -65,18 +75,32 @@ module _ (S : State) (t after : ℕ) where
   passed_step None m true h = λ low high. absurd (omega (arith, high))
   passed_step (Some n) m true h = λ low high. absurd (omega (arith, high))
 
-  there_fold : (xs : List ℕ) (next : Option ℕ) → ((n : ℕ) → next ≡ Some n → IsThere n) → (n : ℕ) → fold (nearer S t after) next xs ≡ Some n → IsThere n
+  there_fold :
+      (xs : List ℕ) (next : Option ℕ)
+      → ((n : ℕ) → next ≡ Some n → IsThere n)
+      → (n : ℕ)
+      → fold (nearer S t after) next xs ≡ Some n
+      → IsThere n
   there_fold [] next there = there
-  there_fold (x ∷ xs) next there = there_fold xs (nearer S t after next x) (there_step next x (passes x) refl there)
+  there_fold (x ∷ xs) next there =
+      there_fold xs (nearer S t after next x) (there_step next x (passes x) refl there)
 
-  past_fold : (xs : List ℕ) (next : Option ℕ) (k : ℕ) → IsPast next k → IsPast (fold (nearer S t after) next xs) k
+  past_fold :
+      (xs : List ℕ) (next : Option ℕ) (k : ℕ)
+      → IsPast next k
+      → IsPast (fold (nearer S t after) next xs) k
   past_fold [] next k past = past
-  past_fold (x ∷ xs) next k past = past_fold xs (nearer S t after next x) k (past_step next x k (passes x) past)
+  past_fold (x ∷ xs) next k past =
+      past_fold xs (nearer S t after next x) k (past_step next x k (passes x) past)
 
-  listed_fold : (xs : List ℕ) (next : Option ℕ) (k : ℕ) → contains xs k ≡ true → IsPast (fold (nearer S t after) next xs) k
+  listed_fold :
+      (xs : List ℕ) (next : Option ℕ) (k : ℕ)
+      → contains xs k ≡ true
+      → IsPast (fold (nearer S t after) next xs) k
   listed_fold [] next k h = absurd (let e : false ≡ true = h in cc)
   listed_fold (x ∷ xs) next k h = elim (contains_cases x xs k h) [
-    | inl here ↦ past_fold xs (nearer S t after next x) k (subst (λ j. IsPast (nearer S t after next x) j) (sym here) (passed_step next x (passes x) refl))
+    | inl here ↦ past_fold xs (nearer S t after next x) k (subst
+        (λ j. IsPast (nearer S t after next x) j) (sym here) (passed_step next x (passes x) refl))
     | inr later ↦ listed_fold xs (nearer S t after next x) k later
   ]
 
@@ -84,7 +108,11 @@ module _ (S : State) (t after : ℕ) where
   past_other None k h = λ low. h
   past_other (Some m) k h = λ low high. h
 
-  past_all : (xs : List ℕ) → ((m : ℕ) → owner_of S m ≡ Some t → contains xs m ≡ true) → (k : ℕ) → IsPast (fold (nearer S t after) None xs) k
+  past_all :
+      (xs : List ℕ)
+      → ((m : ℕ) → owner_of S m ≡ Some t → contains xs m ≡ true)
+      → (k : ℕ)
+      → IsPast (fold (nearer S t after) None xs) k
   past_all xs listed k = go (owns k) refl
     where
       go : (b : Bool) → owns k ≡ b → IsPast (fold (nearer S t after) None xs) k
@@ -94,7 +122,8 @@ module _ (S : State) (t after : ℕ) where
   pub next_owned_is :
       (xs : List ℕ) → IsWhole S → ((m : ℕ) → owner_of S m ≡ Some t → contains xs m ≡ true)
       → (next : Option ℕ) → next ≡ fold (nearer S t after) None xs → IsNextOwned S t after next
-  next_owned_is xs whole listed None e = λ k. subst (λ next. IsPast next k) (sym e) (past_all xs listed k)
+  next_owned_is xs whole listed None e =
+      λ k. subst (λ next. IsPast next k) (sym e) (past_all xs listed k)
   next_owned_is xs whole listed (Some m) e =
       let there = there_fold xs None (λ n e. cc) m (sym e) in
       let owner = from_holds (owner_of S m) t there.1 in

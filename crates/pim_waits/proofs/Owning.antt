@@ -1,5 +1,6 @@
 -- What a thread has by itself, one owned mutex after another.
-use Rattle.std.proofs.Common.{◌≡◌, ℕ, ◌<◌, ◌≤◌, Bool, true, false, cond, max, List, length, get_or, Some, refl, arith, map, eq-eqb}
+use Rattle.std.proofs.Common.{◌≡◌, ℕ, ◌<◌, ◌≤◌, Bool, true, false, cond, max, List, length, get_or}
+use Rattle.std.proofs.Common.{Some, refl, arith, map, eq-eqb}
 use Rattle.pim_base.specs.Lists.{contains, holds}
 use Rattle.pim_base.specs.State.{State, IsMutex, base_of, owner_of, owned}
 use Rattle.pim_base.specs.Priorities.{ceiling_of, own_priority}
@@ -20,11 +21,21 @@ own_is S t = greatest-cons (base_of S t) (map (ceiling_of S) (owned S t))
 pub base-le-own : (S : State) (t : ℕ) → base_of S t ≤ own_priority S t
 base-le-own S t = omega (arith, own_is S t)
 
-pub ceiling-le-own : (S : State) (m t : ℕ) → IsWhole S → owner_of S m ≡ Some t → ceiling_of S m ≤ own_priority S t
+pub ceiling-le-own :
+    (S : State) (m t : ℕ)
+    → IsWhole S
+    → owner_of S m ≡ Some t
+    → ceiling_of S m ≤ own_priority S t
 ceiling-le-own S m t whole owner =
     let known : IsMutex S m = known_from_owner S m t whole.lists owner in
     let holds_it : holds (owner_of S m) t ≡ true = rw owner (eq-eqb t t refl) in
-    omega (arith, own_is S t, le-greatest_of (ceiling_of S) (λ k. holds (owner_of S k) t) (length S.protocol) m known.0 known.1 holds_it)
+    omega (
+      arith,
+      own_is S t,
+      le-greatest_of
+          (ceiling_of S)
+          (λ k. holds (owner_of S k) t) (length S.protocol) m known.0 known.1 holds_it,
+    )
 
 pub ceiling_for-le-own : (S : State) (m t : ℕ) → IsWhole S → ceiling_for S m t ≤ own_priority S t
 ceiling_for-le-own S m t whole = go (holds (owner_of S m) t) refl
@@ -43,7 +54,8 @@ own-le S t b base each =
       arith,
       own_is S t,
       base,
-      greatest_of-le (ceiling_of S) (λ m. holds (owner_of S m) t) (length S.protocol) b (λ m low high h. each m (from_holds (owner_of S m) t h)),
+      greatest_of-le (ceiling_of S) (λ m. holds (owner_of S m) t)
+          (length S.protocol) b (λ m low high h. each m (from_holds (owner_of S m) t h)),
     )
 
 pub own-le_listed :

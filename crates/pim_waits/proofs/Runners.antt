@@ -1,5 +1,6 @@
 -- The thread that has to run.
-use Rattle.std.proofs.Common.{◌≡◌, ◌≢◌, ℕ, ◌==◌, ◌||◌, Bool, true, false, cond, Option, Some, None, is_some, option_and_then, refl, sym, ◌∙◌, ap}
+use Rattle.std.proofs.Common.{◌≡◌, ◌≢◌, ℕ, ◌==◌, ◌||◌, Bool, true, false, cond, Option, Some, None}
+use Rattle.std.proofs.Common.{is_some, option_and_then, refl, sym, ◌∙◌, ap}
 use Rattle.std.proofs.lemmas.Bool.{eq-eqb}
 use Rattle.std.proofs.lemmas.Option.{same_Some}
 use Rattle.pim_base.specs.State.{State}
@@ -17,7 +18,9 @@ other_end-same S t u v e = go (u == t) (is_some (blocker S u)) e
     go false false h = same_Some u v h
 
 other_end-other : (S : State) (t u v : ℕ) → other_end S t u ≡ Some v → u ≢ t
-other_end-other S t u v e same = go (is_some (blocker S u)) (ap (λ b. cond (b || is_some (blocker S u)) None (Some u)) (sym (eq-eqb u t same)) ∙ e)
+other_end-other S t u v e same =
+    go (is_some (blocker S u))
+    (ap (λ b. cond (b || is_some (blocker S u)) None (Some u)) (sym (eq-eqb u t same)) ∙ e)
   where
     go : (b : Bool) → cond (true || b) None (Some u) ≡ Some v → ⊥
     go b h = cc
@@ -31,10 +34,17 @@ other_end-free S t u v e = go (u == t) (blocker S u) e
     go false (Some x) h = cc
 
 -- a runner is where the way ends
-pub runner-last : (S : State) (t u : ℕ) → runner S t ≡ Some u → (last_item (way S t) ≡ Some u) × (other_end S t u ≡ Some u)
+pub runner-last :
+    (S : State) (t u : ℕ)
+    → runner S t ≡ Some u
+    → (last_item (way S t) ≡ Some u) × (other_end S t u ≡ Some u)
 runner-last S t u e = go (last_item (way S t)) refl e
   where
-    go : (o : Option ℕ) → last_item (way S t) ≡ o → option_and_then (other_end S t) o ≡ Some u → (last_item (way S t) ≡ Some u) × (other_end S t u ≡ Some u)
+    go :
+        (o : Option ℕ)
+        → last_item (way S t) ≡ o
+        → option_and_then (other_end S t) o ≡ Some u
+        → (last_item (way S t) ≡ Some u) × (other_end S t u ≡ Some u)
     go None at h = cc
     go (Some v) at h =
         let same : v ≡ u = other_end-same S t v u h in

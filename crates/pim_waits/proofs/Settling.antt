@@ -1,5 +1,7 @@
 -- What is settled after a change, and what it touches.
-use Rattle.std.proofs.Common.{◌≡◌, ℕ, suc, ◌≤◌, ◌++◌, ◌∷◌, [], ◌⊎◌, false, List, length, Option, Some, None, refl, sym, ◌∙◌, ap, subst, inl, inr, arith, unwrap_or, le_antisymm}
+use Rattle.std.proofs.Common.{◌≡◌, ℕ, suc, ◌≤◌, ◌++◌, ◌∷◌, [], ◌⊎◌, false, List, length, Option}
+use Rattle.std.proofs.Common.{Some, None, refl, sym, ◌∙◌, ap, subst, inl, inr, arith, unwrap_or}
+use Rattle.std.proofs.Common.{le_antisymm}
 use Rattle.std.proofs.lemmas.Bool.{cases_lt, true≢false}
 use Rattle.pim_base.specs.Lists.{nth, contains}
 use Rattle.pim_base.specs.State.{State, IsTask, base_of, owner_of, wait_of, protocol_of, with_count}
@@ -41,7 +43,12 @@ touches S T threads before after around appended = record {
 }
 
 -- ---- what is kept for a thread is what it gets
-pub kept_gets : (S : State) (levels : List ℕ) (t : ℕ) → IsWhole S → length levels ≡ length S.base → Flows S (level_at levels) nobody → level_at levels t ≡ gets S t
+pub kept_gets :
+    (S : State) (levels : List ℕ) (t : ℕ)
+    → IsWhole S
+    → length levels ≡ length S.base
+    → Flows S (level_at levels) nobody
+    → level_at levels t ≡ gets S t
 kept_gets S levels t whole len flows = go (nth levels t) refl
   where
     go : (o : Option ℕ) → nth levels t ≡ o → level_at levels t ≡ gets S t
@@ -49,7 +56,8 @@ kept_gets S levels t whole len flows = go (nth levels t) refl
         let within = nth_within levels t level e in
         flows_effective S (level_at levels) whole flows t (omega (arith, within, len))
     go None e =
-        ap (λ o. unwrap_or o 0) e ∙ sym (unknown_effective S t whole (λ task. nth_none levels t e task.0 (omega (arith, task, len))))
+        ap (λ o. unwrap_or o 0) e ∙ sym (unknown_effective S t whole
+        (λ task. nth_none levels t e task.0 (omega (arith, task, len))))
 
 -- ---- one thread more
 module _ (S : State) (level : ℕ) (whole : IsWhole S) (after : IsWhole (with_thread S level)) where
@@ -68,11 +76,17 @@ module _ (S : State) (level : ℕ) (whole : IsWhole S) (after : IsWhole (with_th
   -- the new thread owns nothing
   own-new : own_priority T (suc (length S.base)) ≤ level
   own-new =
-      own-le T (suc (length S.base)) level (omega (arith, ap (λ v. unwrap_or v 0) (nth-last S.base level)))
+      own-le T (suc (length S.base)) level
+      (omega (arith, ap (λ v. unwrap_or v 0) (nth-last S.base level)))
       (λ m e. absurd (omega (arith, whole.owners m (suc (length S.base)) e)))
 
   own-new_level : level ≤ own_priority T (suc (length S.base))
-  own-new_level = omega (arith, ap (λ v. unwrap_or v 0) (nth-last S.base level), base-le-own T (suc (length S.base)))
+  own-new_level =
+      omega (
+        arith,
+        ap (λ v. unwrap_or v 0) (nth-last S.base level),
+        base-le-own T (suc (length S.base)),
+      )
 
   -- a known thread was there before, or is the new one
   old_or_new : (t : ℕ) → IsTask T t → IsTask S t ⊎ (t ≡ suc (length S.base))
@@ -89,10 +103,13 @@ module _ (S : State) (level : ℕ) (whole : IsWhole S) (after : IsWhole (with_th
   flows_thread levels len flows = record { least = least; passed = passed; comes = comes }
     where
       kept : (t : ℕ) → IsTask S t → level_at (levels ++ level ∷ []) t ≡ level_at levels t
-      kept t task = ap (λ v. unwrap_or v 0) (nth-left levels (level ∷ []) t (omega (arith, task, len)))
+      kept t task =
+          ap (λ v. unwrap_or v 0) (nth-left levels (level ∷ []) t (omega (arith, task, len)))
 
       new : level_at (levels ++ level ∷ []) (suc (length S.base)) ≡ level
-      new = ap (λ n. level_at (levels ++ level ∷ []) (suc n)) (sym len) ∙ ap (λ v. unwrap_or v 0) (nth-last levels level)
+      new =
+          ap (λ n. level_at (levels ++ level ∷ []) (suc n)) (sym len)
+          ∙ ap (λ v. unwrap_or v 0) (nth-last levels level)
 
       wider : (t : ℕ) → IsTask S t → IsTask T t
       wider t task = omega (arith, task, length-push S.base level)
@@ -100,10 +117,15 @@ module _ (S : State) (level : ℕ) (whole : IsWhole S) (after : IsWhole (with_th
       least : (t : ℕ) → IsTask T t → own_priority T t ≤ level_at (levels ++ level ∷ []) t
       least t task = elim (old_or_new t task) [
         | inl old ↦ omega (arith, kept t old, own-thread t old, flows.least t old)
-        | inr last ↦ subst (λ x. own_priority T x ≤ level_at (levels ++ level ∷ []) x) (sym last) (omega (arith, own-new, new))
+        | inr last ↦ subst (λ x. own_priority T x ≤ level_at (levels ++ level ∷ []) x)
+            (sym last) (omega (arith, own-new, new))
       ]
 
-      passed : (t u : ℕ) → heir T t ≡ Some u → nobody t ≡ false → level_at (levels ++ level ∷ []) t ≤ level_at (levels ++ level ∷ []) u
+      passed :
+          (t u : ℕ)
+          → heir T t ≡ Some u
+          → nobody t ≡ false
+          → level_at (levels ++ level ∷ []) t ≤ level_at (levels ++ level ∷ []) u
       passed t u e h =
           let before : heir S t ≡ Some u = sym (heir-thread t) ∙ e in
           let blocks : blocker S t ≡ Some u = heir-blocker S t u before in
@@ -119,7 +141,9 @@ module _ (S : State) (level : ℕ) (whole : IsWhole S) (after : IsWhole (with_th
               from = c.from;
               task = wider c.from c.task;
               hops = c.hops;
-              leads = ap (λ ts. contains ts t) (chain-same (heir T) (heir S) heir-thread c.hops c.from) ∙ c.leads;
+              leads =
+                  ap (λ ts. contains ts t) (chain-same (heir T) (heir S) heir-thread c.hops c.from)
+                  ∙ c.leads;
               own = own-thread c.from c.task ∙ c.own ∙ sym (kept t old);
             }
         | inr last ↦
@@ -136,15 +160,25 @@ module _ (S : State) (level : ℕ) (whole : IsWhole S) (after : IsWhole (with_th
 
 -- ---- one mutex more
 module _ (S : State) (p : Protocol) (whole : IsWhole S) (after : IsWhole (with_mutex S p)) where
-  protocol-mutex : (m t : ℕ) → owner_of S m ≡ Some t → protocol_of (with_mutex S p) m ≡ protocol_of S m
+  protocol-mutex :
+      (m t : ℕ)
+      → owner_of S m ≡ Some t
+      → protocol_of (with_mutex S p) m ≡ protocol_of S m
   protocol-mutex m t e =
-      ap (λ v. unwrap_or v Protocol.None) (nth-left S.protocol (p ∷ []) m (known_from_owner S m t whole.lists e).1)
+      ap (λ v. unwrap_or v Protocol.None)
+      (nth-left S.protocol (p ∷ []) m (known_from_owner S m t whole.lists e).1)
 
   heir_of-mutex : (m : ℕ) → heir_of (with_mutex S p) m ≡ heir_of S m
-  heir_of-mutex m = ap (heir_in (protocol_of (with_mutex S p) m)) (owner-mutex S p m) ∙ go (owner_of S m) refl
+  heir_of-mutex m =
+      ap (heir_in (protocol_of (with_mutex S p) m)) (owner-mutex S p m) ∙ go (owner_of S m) refl
     where
-      go : (o : Option ℕ) → owner_of S m ≡ o → heir_in (protocol_of (with_mutex S p) m) (owner_of S m) ≡ heir_of S m
-      go None e = ap (heir_in _) e ∙ heir_in-none _ ∙ sym (ap (heir_in (protocol_of S m)) e ∙ heir_in-none _)
+      go :
+          (o : Option ℕ)
+          → owner_of S m ≡ o
+          → heir_in (protocol_of (with_mutex S p) m) (owner_of S m) ≡ heir_of S m
+      go None e =
+          ap (heir_in _) e
+          ∙ heir_in-none _ ∙ sym (ap (heir_in (protocol_of S m)) e ∙ heir_in-none _)
       go (Some t) e = ap (λ q. heir_in q (owner_of S m)) (protocol-mutex m t e)
 
   same_mutex : (t : ℕ) → IsSame S (with_mutex S p) t
@@ -155,7 +189,11 @@ module _ (S : State) (p : Protocol) (whole : IsWhole S) (after : IsWhole (with_m
         (own-le (with_mutex S p) t (own_priority S t) (base-le-own S t)
         (λ m e.
         let before : owner_of S m ≡ Some t = sym (owner-mutex S p m) ∙ e in
-        omega (arith, ap (λ q. unwrap_or (ceiling q) 0) (protocol-mutex m t before), ceiling-le-own S m t whole before)))
+        omega (
+          arith,
+          ap (λ q. unwrap_or (ceiling q) 0) (protocol-mutex m t before),
+          ceiling-le-own S m t whole before,
+        )))
         (own-le S t (own_priority (with_mutex S p) t) (base-le-own (with_mutex S p) t)
         (λ m e.
         omega (
@@ -178,13 +216,23 @@ module _ (S : State) (p : Protocol) (whole : IsWhole S) (after : IsWhole (with_m
 
   pub flows_mutex : (level : ℕ → ℕ) → Flows S level nobody → Flows (with_mutex S p) level nobody
   flows_mutex level flows =
-      flows_again S (with_mutex S p) nobody around level level flows (λ t h. absurd (true≢false (sym h))) (λ t h. refl)
+      flows_again S (with_mutex S p) nobody around level level flows
+      (λ t h. absurd (true≢false (sym h))) (λ t h. refl)
     where
       around : Around S (with_mutex S p) nobody
-      around = record { tasks = refl; same = λ t out. same_mutex t; closed = λ t u e. refl; closed_after = λ t u e. refl }
+      around =
+          record {
+            tasks = refl;
+            same = λ t out. same_mutex t;
+            closed = λ t u e. refl;
+            closed_after = λ t u e. refl;
+          }
 
 -- ---- another count
-pub flows_count : (S : State) (m k : ℕ) (level : ℕ → ℕ) → Flows S level nobody → Flows (with_count S m k) level nobody
+pub flows_count :
+    (S : State) (m k : ℕ) (level : ℕ → ℕ)
+    → Flows S level nobody
+    → Flows (with_count S m k) level nobody
 flows_count S m k level flows = record {
   least = flows.least;
   passed = flows.passed;

@@ -1,11 +1,13 @@
 -- Ways with a thread twice, and ways without the part between.
-use Rattle.std.proofs.Common.{◌≡◌, ℕ, zero, suc, ◌+◌, ◌-◌, ◌<◌, ◌≤◌, true, false, Bool, ◌||◌, ◌⊎◌, inl, inr, eqb, List, [], ◌∷◌, length, Option, Some, refl, ◌∙◌, arith}
+use Rattle.std.proofs.Common.{◌≡◌, ℕ, zero, suc, ◌+◌, ◌-◌, ◌<◌, ◌≤◌, true, false, Bool, ◌||◌, ◌⊎◌}
+use Rattle.std.proofs.Common.{inl, inr, eqb, List, [], ◌∷◌, length, Option, Some, refl, ◌∙◌, arith}
 use Rattle.std.specs.List.{IsDistinct, AllByRecursion}
 use Rattle.std.proofs.lemmas.Bool.{cases_lt, true≢false}
 use Rattle.std.proofs.lemmas.Map.Steps.{length-le_from_distinct_below}
 use Rattle.pim_base.specs.Lists.{contains}
 use Rattle.pim_base.specs.Chains.{chain}
-use Rattle.pim_base.proofs.Hops.{hops, Reaches, reaches_from_contains, first_hop, hops_front, hops-add, hops_rest, OnlyKnownHop, length-chain, known_on_chain}
+use Rattle.pim_base.proofs.Hops.{hops, Reaches, reaches_from_contains, first_hop, hops_front}
+use Rattle.pim_base.proofs.Hops.{hops-add, hops_rest, OnlyKnownHop, length-chain, known_on_chain}
 use Rattle.pim_waits.proofs.Lists.{contains_cases, is_false}
 
 -- the same thread after i and after j hops
@@ -18,7 +20,10 @@ record Repeats (hop : ℕ → Option ℕ) (n t : ℕ) : Type 0 where
   early : hops hop i t ≡ Some thread
   late : hops hop j t ≡ Some thread
 
-apart_from : (t : ℕ) (xs : List ℕ) → contains xs t ≡ false → AllByRecursion (λ y. eqb t y ≡ false) xs
+apart_from :
+    (t : ℕ) (xs : List ℕ)
+    → contains xs t ≡ false
+    → AllByRecursion (λ y. eqb t y ≡ false) xs
 apart_from t [] h = tt
 apart_from t (x ∷ xs) h = go (apart_from t xs) (eqb t x) refl h
   where
@@ -32,7 +37,10 @@ apart_from t (x ∷ xs) h = go (apart_from t xs) (eqb t x) refl h
     go rest false e h = (e, rest h)
 
 -- all threads on the way are apart, or one is there twice
-repeats_or_distinct : (hop : ℕ → Option ℕ) (n t u : ℕ) → hops hop n t ≡ Some u → Repeats hop n t ⊎ IsDistinct eqb (chain hop n t)
+repeats_or_distinct :
+    (hop : ℕ → Option ℕ) (n t u : ℕ)
+    → hops hop n t ≡ Some u
+    → Repeats hop n t ⊎ IsDistinct eqb (chain hop n t)
 unfolding IsDistinct
 repeats_or_distinct hop zero t u e = inr (tt, tt)
 repeats_or_distinct hop (suc n) t u e =
@@ -95,11 +103,17 @@ unfolding IsDistinct
 long_repeats hop n k t u known long e = elim (repeats_or_distinct hop n t v to_v) [
   | inl r ↦ r
   | inr distinct ↦
-      let none : contains (chain hop n t) 0 ≡ false = is_false (contains (chain hop n t) 0) zero_on in
-      let all : IsDistinct eqb (0 ∷ chain hop n t) = (apart_from 0 (chain hop n t) none, distinct) in
+      let none : contains (chain hop n t) 0 ≡ false =
+      is_false (contains (chain hop n t) 0) zero_on in
+      let all : IsDistinct eqb (0 ∷ chain hop n t) =
+      (apart_from 0 (chain hop n t) none, distinct) in
       let small : (q : ℕ) → contains (0 ∷ chain hop n t) q ≡ true → q < suc n =
-      λ q m. elim (contains_cases 0 (chain hop n t) q m) [ inl h ↦ omega (arith, h) | inr h ↦ omega (arith, on q h) ] in
-      let bound : length (0 ∷ chain hop n t) ≤ suc n = length-le_from_distinct_below (0 ∷ chain hop n t) (suc n) all small in
+      λ q m. elim (contains_cases 0 (chain hop n t) q m) [
+        | inl h ↦ omega (arith, h)
+        | inr h ↦ omega (arith, on q h)
+      ] in
+      let bound : length (0 ∷ chain hop n t) ≤ suc n =
+      length-le_from_distinct_below (0 ∷ chain hop n t) (suc n) all small in
       absurd (omega (arith, bound, length-chain hop n t v to_v))
 ]
   where
@@ -113,7 +127,9 @@ long_repeats hop n k t u known long e = elim (repeats_or_distinct hop n t v to_v
     to_v = mid.1
 
     on : (q : ℕ) → contains (chain hop n t) q ≡ true → (1 ≤ q) × (q ≤ n)
-    on q h = known_on_chain hop n known n t v q to_v (known v mid.2.0 mid.2.1) (reaches_from_contains hop n t q h)
+    on q h =
+        known_on_chain hop n known n t v q to_v
+        (known v mid.2.0 mid.2.1) (reaches_from_contains hop n t q h)
 
     zero_on : contains (chain hop n t) 0 ≡ true → ⊥
     zero_on h = absurd (omega (arith, on 0 h))
@@ -131,6 +147,8 @@ shorter hop n known (suc fuel) k t u enough e = elim (cases_lt n k) [
   | inr short ↦ (k, short, e)
   | inl long ↦
       let r : Repeats hop n t = long_repeats hop n k t u known long e in
-      let rest : hops hop (k - r.j) r.thread ≡ Some u = hops_rest hop r.j k t r.thread (omega (arith, r.within)) r.late ∙ e in
-      shorter hop n known fuel (r.i + (k - r.j)) t u (omega (arith, r.apart, r.within)) (hops-add hop r.i (k - r.j) t r.thread r.early ∙ rest)
+      let rest : hops hop (k - r.j) r.thread ≡ Some u =
+      hops_rest hop r.j k t r.thread (omega (arith, r.within)) r.late ∙ e in
+      shorter hop n known fuel (r.i + (k - r.j)) t u
+      (omega (arith, r.apart, r.within)) (hops-add hop r.i (k - r.j) t r.thread r.early ∙ rest)
 ]

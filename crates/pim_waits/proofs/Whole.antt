@@ -1,10 +1,13 @@
 -- What a change leaves in order.
-use Rattle.std.proofs.Common.{◌≡◌, ℕ, suc, ◌==◌, Bool, true, false, cond, List, [], ◌∷◌, ◌++◌, length, Option, Some, None, IfSome, refl, sym, ◌∙◌, ap, inl, inr, arith, unwrap_or}
+use Rattle.std.proofs.Common.{◌≡◌, ℕ, suc, ◌==◌, Bool, true, false, cond, List, [], ◌∷◌, ◌++◌}
+use Rattle.std.proofs.Common.{length, Option, Some, None, IfSome, refl, sym, ◌∙◌, ap, inl, inr}
+use Rattle.std.proofs.Common.{arith, unwrap_or}
 use Rattle.std.specs.Option.{option_map}
 use Rattle.std.proofs.lemmas.Bool.{cases_eq, ne_eqb, eq-eqb}
 use Rattle.std.proofs.lemmas.List.{length-append}
 use Rattle.pim_base.specs.Lists.{nth, put}
-use Rattle.pim_base.specs.State.{State, IsTask, owner_of, wait_of, with_count, with_owner, with_wait}
+use Rattle.pim_base.specs.State.{State, IsTask, owner_of, wait_of, with_count, with_owner}
+use Rattle.pim_base.specs.State.{with_wait}
 use Rattle.pim_base.specs.declared.steps.Protocol.{Protocol}
 use Rattle.pim_base.specs.declared.steps.Wait.{Wait}
 use Rattle.pim_base.proofs.Places.{nth-put_same, nth-put_other, length-put, nth_within}
@@ -26,8 +29,10 @@ pub option-put :
     → unwrap_or (nth (put xs n o) k) None ≡ Some x
     → cond (k == n) o (unwrap_or (nth xs k) None) ≡ Some x
 option-put {X = X} xs n k o x e = elim (cases_eq k n) [
-  | inr ne ↦ rw (ne_eqb k n ne) (ap (λ v. unwrap_or v None) (sym (nth-put_other xs n k o (λ h. ne (sym h)))) ∙ e)
-  | inl same ↦ rw (eq-eqb k n same) (here (nth (put xs n o) n) refl (ap (λ j. unwrap_or (nth (put xs n o) j) None) (sym same) ∙ e))
+  | inr ne ↦ rw (ne_eqb k n ne)
+      (ap (λ v. unwrap_or v None) (sym (nth-put_other xs n k o (λ h. ne (sym h)))) ∙ e)
+  | inl same ↦ rw (eq-eqb k n same) (here
+      (nth (put xs n o) n) refl (ap (λ j. unwrap_or (nth (put xs n o) j) None) (sym same) ∙ e))
 ]
   where
     here : (v : Option (Option X)) → nth (put xs n o) n ≡ v → unwrap_or v None ≡ Some x → o ≡ Some x
@@ -47,7 +52,8 @@ pub same_state :
     → S.wait ≡ T.wait
     → S.next ≡ T.next
     → S ≡ T
-same_state b p o c w n = λ i. record { base = b i; protocol = p i; owner = o i; count = c i; wait = w i; next = n i }
+same_state b p o c w n =
+    λ i. record { base = b i; protocol = p i; owner = o i; count = c i; wait = w i; next = n i }
 
 -- ---- one thread more
 pub whole_thread : (S : State) (level : ℕ) → IsWhole S → IsWhole (with_thread S level)
@@ -63,11 +69,16 @@ whole_thread S level whole = record {
 pub wait-thread : (S : State) (level t : ℕ) → wait_of (with_thread S level) t ≡ wait_of S t
 wait-thread S level t = nth-push_none S.wait t
 
-pub listed_thread : (S : State) (owned waiting : Groups) (level : ℕ) → AreListed S owned waiting → AreListed (with_thread S level) owned waiting
+pub listed_thread :
+    (S : State) (owned waiting : Groups) (level : ℕ)
+    → AreListed S owned waiting
+    → AreListed (with_thread S level) owned waiting
 listed_thread S owned waiting level listed = record {
   whole = whole_thread S level listed.whole;
   owned = listed.owned;
-  waiting = λ t m e. listed.waiting t m (ap (option_map (λ (w : Wait). w.mutex)) (sym (wait-thread S level t)) ∙ e);
+  waiting =
+      λ t m e. listed.waiting t m
+      (ap (option_map (λ (w : Wait). w.mutex)) (sym (wait-thread S level t)) ∙ e);
 }
 
 -- ---- one mutex more
@@ -84,7 +95,10 @@ whole_mutex S p whole = record {
   owners = λ m t e. whole.owners m t (sym (owner-mutex S p m) ∙ e);
 }
 
-pub listed_mutex : (S : State) (owned waiting : Groups) (p : Protocol) → AreListed S owned waiting → AreListed (with_mutex S p) owned waiting
+pub listed_mutex :
+    (S : State) (owned waiting : Groups) (p : Protocol)
+    → AreListed S owned waiting
+    → AreListed (with_mutex S p) owned waiting
 listed_mutex S owned waiting p listed = record {
   whole = whole_mutex S p listed.whole;
   owned = λ m t e. listed.owned m t (sym (owner-mutex S p m) ∙ e);
@@ -94,12 +108,20 @@ listed_mutex S owned waiting p listed = record {
 -- ---- another count
 pub whole_count : (S : State) (m k : ℕ) → IsWhole S → IsWhole (with_count S m k)
 whole_count S m k whole = record {
-  lists = record { waits = whole.lists.waits; owners = whole.lists.owners; counts = length-put S.count m k ∙ whole.lists.counts };
+  lists =
+      record {
+        waits = whole.lists.waits;
+        owners = whole.lists.owners;
+        counts = length-put S.count m k ∙ whole.lists.counts;
+      };
   owners = whole.owners;
 }
 
 -- ---- another owner
-pub owner-put : (S : State) (m k : ℕ) (o : Option ℕ) (t : ℕ) → owner_of (with_owner S m o) k ≡ Some t → moved (owner_of S) m o k ≡ Some t
+pub owner-put :
+    (S : State) (m k : ℕ) (o : Option ℕ) (t : ℕ)
+    → owner_of (with_owner S m o) k ≡ Some t
+    → moved (owner_of S) m o k ≡ Some t
 owner-put S m k o t e = option-put S.owner m k o t e
 
 owner_known : (S : State) (o : Option ℕ) (t : ℕ) → IfSome o (IsTask S) → o ≡ Some t → IsTask S t
@@ -127,22 +149,34 @@ listed_owner S owned after waiting m o known listed by = record {
   where
     owners : (k t : ℕ) → moved (owner_of S) m o k ≡ Some t → IsTask S t
     owners k t e = elim (cases_eq k m) [
-      | inl same ↦ owner_known S o t known (sym (ap (λ b. cond b o (owner_of S k)) (eq-eqb k m same)) ∙ e)
-      | inr ne ↦ listed.whole.owners k t (sym (ap (λ b. cond b o (owner_of S k)) (ne_eqb k m ne)) ∙ e)
+      | inl same ↦
+          owner_known S o t known (sym (ap (λ b. cond b o (owner_of S k)) (eq-eqb k m same)) ∙ e)
+      | inr ne ↦
+          listed.whole.owners k t (sym (ap (λ b. cond b o (owner_of S k)) (ne_eqb k m ne)) ∙ e)
     ]
 
 -- ---- another wait
-awaited-put : (S : State) (t u : ℕ) (w : Option Wait) (m : ℕ) → awaited_of (with_wait S t w) u ≡ Some m → moved (awaited_of S) t (option_map (λ (w : Wait). w.mutex) w) u ≡ Some m
+awaited-put :
+    (S : State) (t u : ℕ) (w : Option Wait) (m : ℕ)
+    → awaited_of (with_wait S t w) u ≡ Some m
+    → moved (awaited_of S) t (option_map (λ (w : Wait). w.mutex) w) u ≡ Some m
 awaited-put S t u w m e = go (wait_of (with_wait S t w) u) refl e
   where
     mutex : Option Wait → Option ℕ
     mutex = option_map (λ (w : Wait). w.mutex)
 
-    go : (v : Option Wait) → wait_of (with_wait S t w) u ≡ v → mutex v ≡ Some m → moved (awaited_of S) t (mutex w) u ≡ Some m
+    go :
+        (v : Option Wait)
+        → wait_of (with_wait S t w) u ≡ v
+        → mutex v ≡ Some m
+        → moved (awaited_of S) t (mutex w) u ≡ Some m
     go None is h = cc
     go (Some x) is h = push (u == t) (option-put S.wait t u w x is)
       where
-        push : (b : Bool) → cond b w (wait_of S u) ≡ Some x → cond b (mutex w) (mutex (wait_of S u)) ≡ Some m
+        push :
+            (b : Bool)
+            → cond b w (wait_of S u) ≡ Some x
+            → cond b (mutex w) (mutex (wait_of S u)) ≡ Some m
         push true e = ap mutex e ∙ h
         push false e = ap mutex e ∙ h
 

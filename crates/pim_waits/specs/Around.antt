@@ -4,7 +4,8 @@ use Rattle.pim_base.specs.State.{State, base_of, wait_of}
 use Rattle.pim_base.specs.Chains.{blocker, heir}
 use Rattle.pim_base.specs.Priorities.{own_priority}
 
--- the thread has the same level, own priority, blocker and heir, and if it is blocked, the same wait
+-- the thread has the same level, own priority, blocker and heir, and if it is blocked, the same
+-- wait
 pub record IsSame (S T : State) (t : ℕ) : Type 0 where
   pub base : base_of T t ≡ base_of S t
   pub own : own_priority T t ≡ own_priority S t

@@ -17,8 +17,8 @@ pub record ComesFrom (S : State) (level : ℕ → ℕ) (t : ℕ) : Type 0 where
   pub leads : contains (chain (heir S) hops from) t ≡ true
   pub own : own_priority S from ≡ level t
 
--- Each thread has at least its own level, none has less than a thread whose heir it is, unless that one is pending, and each
--- level comes from a thread.
+-- Each thread has at least its own level, none has less than a thread whose heir it is, unless that
+-- one is pending, and each level comes from a thread.
 pub record Flows (S : State) (level : ℕ → ℕ) (pending : ℕ → Bool) : Type 0 where
   pub least : (t : ℕ) → IsTask S t → own_priority S t ≤ level t
   pub passed : (t u : ℕ) → heir S t ≡ Some u → pending t ≡ false → level t ≤ level u

@@ -25,14 +25,16 @@ HasLowRunner S t = (u : ℕ) × (runner S t ≡ Some u) × (gets S u < gets S t)
 
 -- ---- the mutex to blame
 
--- a mutex of this protocol doesn't pass this level on: it is NONE, or PROTECT with a ceiling below the level
+-- a mutex of this protocol doesn't pass this level on: it is NONE, or PROTECT with a ceiling below
+-- the level
 abbrev pub FallsShort : ℕ → Protocol → Type 0
 FallsShort level Protocol.None = Unit {0}
 FallsShort level Protocol.Inherit = ⊥
 FallsShort level Protocol.InheritRecursive = ⊥
 FallsShort level (Protocol.Protect c) = c < level
 
--- Its owner gets less than t gets, and less than the thread on the way of t that awaits it. It passes no more on.
+-- Its owner gets less than t gets, and less than the thread on the way of t that awaits it. It
+-- passes no more on.
 pub record IsToBlame (S : State) (t m : ℕ) : Type 0 where
   pub waiter : ℕ
   pub owner : ℕ
@@ -52,7 +54,8 @@ BlameExistsLaw = (S : State) (t : ℕ) → HasLowRunner S t → (m : ℕ) × (bl
 
 -- ---- ways that pass on what t gets
 
--- a mutex of this protocol passes this level on: it is INHERIT, or PROTECT with a ceiling of at least the level
+-- a mutex of this protocol passes this level on: it is INHERIT, or PROTECT with a ceiling of at
+-- least the level
 abbrev pub PassesOn : ℕ → Protocol → Type 0
 PassesOn level Protocol.None = ⊥
 PassesOn level Protocol.Inherit = Unit {0}
@@ -70,7 +73,8 @@ WayPassesOn S t =
 
 -- Then the runner gets no less than t gets.
 abbrev pub PassingLaw : Type 0
-PassingLaw = (S : State) (t u : ℕ) → IsWhole S → WayPassesOn S t → runner S t ≡ Some u → gets S t ≤ gets S u
+PassingLaw =
+    (S : State) (t u : ℕ) → IsWhole S → WayPassesOn S t → runner S t ≡ Some u → gets S t ≤ gets S u
 
 -- ---- an owner that waits for nothing
 
@@ -87,8 +91,12 @@ pub record WaitsForIdle (S : State) (t u : ℕ) : Type 0 where
   pub level : gets S u ≡ base_of S u
   pub inverted : HasLowRunner S t ↔ (base_of S u < gets S t)
 
--- Such an owner gets its level. It is the runner of each thread that awaits m, which is inverted if and only if that level
--- is below what the thread gets.
+-- Such an owner gets its level. It is the runner of each thread that awaits m, which is inverted if
+-- and only if that level is below what the thread gets.
 abbrev pub IdleOwnerLaw : Type 0
 IdleOwnerLaw =
-    (S : State) (t m u : ℕ) → IsWhole S → IsIdleOwner S m u → awaited_of S t ≡ Some m → WaitsForIdle S t u
+    (S : State) (t m u : ℕ)
+    → IsWhole S
+    → IsIdleOwner S m u
+    → awaited_of S t ≡ Some m
+    → WaitsForIdle S t u

@@ -1,5 +1,6 @@
 -- What owning a mutex gives a thread.
-use Rattle.std.specs.Prelude.{◌≡◌, ◌<◌, ◌&&◌, ℕ, false, min, Option, Some, None, nat_lt, if◌then◌else◌}
+use Rattle.std.specs.Prelude.{◌≡◌, ◌<◌, ◌&&◌, ℕ, false, min, Option, Some, None, nat_lt}
+use Rattle.std.specs.Prelude.{if◌then◌else◌}
 use Rattle.std.specs.Option.{option_map_or}
 use Rattle.pim_base.specs.Lists.{holds}
 use Rattle.pim_base.specs.State.{State, IsMutex, owner_of}
@@ -24,4 +25,5 @@ IsNextOwned S t after (Some m) = IsFirstAfter S t after m
 -- the lower of the next one so far and m, if m is after the place and t owns it
 abbrev pub nearer : State → ℕ → ℕ → Option ℕ → ℕ → Option ℕ
 nearer S t after next m =
-    if nat_lt after m && holds (owner_of S m) t then Some (option_map_or (λ n. min m n) next m) else next
+    if nat_lt after m && holds (owner_of S m) t
+    then Some (option_map_or (λ n. min m n) next m) else next

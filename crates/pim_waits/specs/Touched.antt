@@ -12,7 +12,8 @@ pub record IsKept (S T : State) (t : ℕ) : Type 0 where
   pub wait : (u : ℕ) → blocker S t ≡ Some u → wait_of T t ≡ wait_of S t
   pub blocker : blocker T t ≡ blocker S t
 
--- the way of the thread is the same, and so is each thread on it; so its runner and the mutex to blame are the same
+-- the way of the thread is the same, and so is each thread on it; so its runner and the mutex to
+-- blame are the same
 pub record IsUntouched (S T : State) (t : ℕ) : Type 0 where
   pub each : (u : ℕ) → contains (way S t) u ≡ true → IsKept S T u
   pub runner : runner T t ≡ runner S t

@@ -1,6 +1,7 @@
 //! Threads that wait for each other.
 
-ghost use Rattle.std.specs.Prelude.{◌≡◌, ◌≤◌, ◌<◌, ◌^◌, ◌+◌, [], true, false, ℕ, length, IfSome, OnOk, OnErr, slice_get};
+ghost use Rattle.std.specs.Prelude.{◌≡◌, ◌≤◌, ◌<◌, ◌^◌, ◌+◌, [], true, false, ℕ, length, IfSome};
+ghost use Rattle.std.specs.Prelude.{OnOk, OnErr, slice_get};
 ghost use Rattle.pim_base.specs.Lists.{contains};
 ghost use Rattle.pim_waits.specs.Members.{Members, Extends, is_marked};
 
@@ -41,8 +42,8 @@ impl Component {
         }
     }
 
-    /// Removes all members, and makes room for this many threads. Reads each member, and adds a mark for each thread for which
-    /// there was no room.
+    /// Removes all members, and makes room for this many threads. Reads each member, and adds a
+    /// mark for each thread for which there was no room.
     ///
     /// # Errors
     ///
@@ -88,7 +89,8 @@ impl Component {
     /// Returns `AllocError` if out of memory. The members are as they were.
     pub fn add(&mut self, thread: ThreadPlace) -> Result<(), AllocError>
         ensures extends { OnOk result (Extends self.old self.new) }
-        ensures added { OnOk result (1 ≤ thread → thread ≤ self.old.room → contains self.new.threads thread ≡ true) }
+        ensures added { OnOk result
+            (1 ≤ thread → thread ≤ self.old.room → contains self.new.threads thread ≡ true) }
         ensures err { OnErr result (self.new ≡ self.old) }
     {
         match nth(&self.marks, thread.0) {
@@ -123,7 +125,8 @@ impl Component {
 /// Removes the marks of these threads.
 fn unmark(marks: &mut Vec<bool>, threads: &[ThreadPlace])
     ensures len { length marks.new.items ≡ length marks.old.items }
-    ensures none { ((t : ℕ) → is_marked marks.old.items t ≡ contains threads.now t) → (t : ℕ) → is_marked marks.new.items t ≡ false }
+    ensures none { ((t : ℕ) → is_marked marks.old.items t ≡ contains threads.now t)
+        → (t : ℕ) → is_marked marks.new.items t ≡ false }
 {
     for thread in threads {
         put(marks, thread.0, false);

@@ -1,9 +1,12 @@
 //! The facts: who owns and awaits what.
 
-ghost use Rattle.std.specs.Prelude.{◌≡◌, ◌≤◌, ◌<◌, ◌+◌, ◌^◌, length, OnOk, OnErr, IfSome, [], None, Some, ℕ, max};
+ghost use Rattle.std.specs.Prelude.{◌≡◌, ◌≤◌, ◌<◌, ◌+◌, ◌^◌, length, OnOk, OnErr, IfSome, [], None};
+ghost use Rattle.std.specs.Prelude.{Some, ℕ, max};
 ghost use Rattle.std.specs.Option.{option_map};
 ghost use Rattle.pim_base.specs.Lists.{nth};
-ghost use Rattle.pim_base.specs.State.{IsTask, IsMutex, start, owner_of, count_of, first_count, wait_of, with_owner, with_count, with_wait, with_base, with_ceiling};
+ghost use Rattle.pim_base.specs.State.{IsTask, IsMutex, start, owner_of, count_of, first_count};
+ghost use Rattle.pim_base.specs.State.{wait_of, with_owner, with_count, with_wait, with_base};
+ghost use Rattle.pim_base.specs.State.{with_ceiling};
 ghost use Rattle.pim_base.specs.Chains.{blocker, heir};
 ghost use Rattle.pim_waits.specs.Whole.{IsWhole};
 ghost use Rattle.pim_waits.specs.Model.{protocol_in_model, wait_for};
@@ -17,8 +20,9 @@ use std::marker::Model;
 
 /// Who owns and awaits what, without what threads get.
 ///
-/// From a thread the lists of owned mutexes and of waiting threads lead to those that it blocks. After an allocation that
-/// failed, a list may have more numbers than it should, so whoever reads one compares with the facts where it matters.
+/// From a thread the lists of owned mutexes and of waiting threads lead to those that it blocks.
+/// After an allocation that failed, a list may have more numbers than it should, so whoever reads
+/// one compares with the facts where it matters.
 pub(crate) struct Facts {
     levels: Vec<Level>,
     awaited: Vec<Option<MutexPlace>>,
@@ -43,7 +47,8 @@ impl Model for Facts {
     ghost invariant = { AreFacts };
 }
 
-// Each place that drops it calls this one function, where a derived drop would be a call for each part there.
+// Each place that drops it calls this one function, where a derived drop would be a call for each
+// part there.
 impl Drop for Facts {
     fn drop(self) {
         let Facts {
@@ -218,7 +223,8 @@ impl Facts {
         mutex: Option<MutexPlace>,
     ) -> Result<(), AllocError>
         requires { IfSome mutex (IsMutex self.old) }
-        ensures ok { OnOk result (self.new ≡ with_wait self.old thread (option_map wait_for mutex)) }
+        ensures ok { OnOk result
+            (self.new ≡ with_wait self.old thread (option_map wait_for mutex)) }
         ensures err { OnErr result (self.new ≡ self.old) }
     {
         let from = mutex_number(&self.awaited(thread));

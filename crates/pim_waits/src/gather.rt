@@ -32,7 +32,8 @@ impl Facts {
     ) -> Result<(), AllocError>
         requires { component.old.room ≡ length self.now.base }
         ensures extends { OnOk result (Extends component.old component.new) }
-        ensures waiting { OnOk result ((t : ℕ) → awaited_of self.now t ≡ Some mutex → contains component.new.threads t ≡ true) }
+        ensures waiting { OnOk result ((t : ℕ)
+            → awaited_of self.now t ≡ Some mutex → contains component.new.threads t ≡ true) }
         ensures room { component.new.room ≡ component.old.room }
     {
         for thread in self.waiting.of(mutex.0) {
@@ -49,7 +50,8 @@ impl Facts {
     fn add_blocked(&self, thread: ThreadPlace, component: &mut Component) -> Result<(), AllocError>
         requires { component.old.room ≡ length self.now.base }
         ensures extends { OnOk result (Extends component.old component.new) }
-        ensures blocked { OnOk result ((t : ℕ) → blocker self.now t ≡ Some thread → contains component.new.threads t ≡ true) }
+        ensures blocked { OnOk result
+            ((t : ℕ) → blocker self.now t ≡ Some thread → contains component.new.threads t ≡ true) }
         ensures room { component.new.room ≡ component.old.room }
     {
         for mutex in self.owned.of(thread.0) {
@@ -82,8 +84,8 @@ impl Facts {
     }
 }
 
-/// Adds all threads that wait for one of the component, or for which one waits, and so on, and appends the component to a
-/// list. Reads no other threads, and no mutexes but those that they own.
+/// Adds all threads that wait for one of the component, or for which one waits, and so on, and
+/// appends the component to a list. Reads no other threads, and no mutexes but those that they own.
 ///
 /// # Errors
 ///
@@ -96,7 +98,8 @@ pub(crate) fn gather(
     requires { component.old.room ≡ length facts.now.base }
     ensures extends { OnOk result (Extends component.old component.new) }
     ensures closed { OnOk result (IsClosed facts.now component.new.threads) }
-    ensures appended { OnOk result (touched.new.items ≡ touched.old.items ++ component.new.threads) }
+    ensures appended { OnOk result
+        (touched.new.items ≡ touched.old.items ++ component.new.threads) }
     ensures room { component.new.room ≡ component.old.room }
 {
     let mut done = 0;

@@ -1,6 +1,7 @@
 //! Lists of numbers, by place.
 
-ghost use Rattle.std.specs.Prelude.{◌≡◌, ◌<◌, ◌+◌, ◌^◌, ◌==◌, ◌++◌, ◌∷◌, [], ℕ, not, length, Option, IfSome, OnOk, OnErr, if◌then◌else◌};
+ghost use Rattle.std.specs.Prelude.{◌≡◌, ◌<◌, ◌+◌, ◌^◌, ◌==◌, ◌++◌, ◌∷◌, [], ℕ, not, length};
+ghost use Rattle.std.specs.Prelude.{Option, IfSome, OnOk, OnErr, if◌then◌else◌};
 ghost use Rattle.std.specs.List.{filter};
 ghost use Rattle.pim_waits.specs.Groups.{group_in, group_of, IsBy, moved};
 
@@ -45,7 +46,8 @@ impl Groups {
         to: Option<usize>,
     ) -> Result<(), AllocError>
         requires { IfSome to (λ place. place + 1 < 2 ^ 64) }
-        ensures ok { OnOk result ((f : ℕ → Option ℕ) → f number ≡ from → IsBy self.old f → IsBy self.new (moved f number to)) }
+        ensures ok { OnOk result ((f : ℕ → Option ℕ)
+            → f number ≡ from → IsBy self.old f → IsBy self.new (moved f number to)) }
         ensures err { OnErr result ((f : ℕ → Option ℕ) → IsBy self.old f → IsBy self.new f) }
     {
         if from == to {
@@ -68,7 +70,8 @@ impl Groups {
     fn add(&mut self, place: usize, number: usize) -> Result<(), AllocError>
         requires { place + 1 < 2 ^ 64 }
         ensures added { OnOk result ((one : ℕ) → group_of self.new one ≡
-            (if one == place then group_of self.old one ++ number ∷ [] else group_of self.old one)) }
+            (if one == place
+            then group_of self.old one ++ number ∷ [] else group_of self.old one)) }
         ensures err { OnErr result ((one : ℕ) → group_of self.new one ≡ group_of self.old one) }
     {
         make_room(&mut self.lists, place)?;
@@ -84,7 +87,8 @@ impl Groups {
     /// Removes a number from the list for a place, if it is there.
     fn remove(&mut self, place: usize, number: usize)
         ensures { (one : ℕ) → group_of self.new one ≡
-            (if one == place then filter (λ other. not (other == number)) (group_of self.old one) else group_of self.old one) }
+            (if one == place then filter (λ other. not (other == number)) (group_of self.old one)
+            else group_of self.old one) }
     {
         if let Some(list) = self.lists.get_mut(place) {
             remove(list, number);

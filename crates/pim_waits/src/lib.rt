@@ -1,8 +1,9 @@
 //! Who owns and awaits what, and what each thread gets.
 //!
-//! [`Waits`] is a state of the model: threads with levels, mutexes with protocols, owners and waits. There may be any number
-//! of mutexes, a thread may wait for a free one, and waits may form cycles: it describes what a program did, right or
-//! wrong. Threads and mutexes are known by their [`ThreadPlace`] and [`MutexPlace`], in the order in which they were added.
+//! [`Waits`] is a state of the model: threads with levels, mutexes with protocols, owners and
+//! waits. There may be any number of mutexes, a thread may wait for a free one, and waits may form
+//! cycles: it describes what a program did, right or wrong. Threads and mutexes are known by their
+//! [`ThreadPlace`] and [`MutexPlace`], in the order in which they were added.
 #![tactic(auto)]
 
 mod component;

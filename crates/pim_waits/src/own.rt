@@ -10,8 +10,8 @@ use crate::place::{MutexPlace, ThreadPlace};
 use pim_fact_lines::{Level, Protocol};
 
 impl Facts {
-    /// Returns what a thread has by itself: the highest of its level and the ceilings of the PROTECT mutexes that it owns.
-    /// Reads each mutex that it owns.
+    /// Returns what a thread has by itself: the highest of its level and the ceilings of the
+    /// PROTECT mutexes that it owns. Reads each mutex that it owns.
     pub fn own(&self, thread: ThreadPlace) -> Level
         requires { IsTask self.now thread }
         ensures { result ≡ own_priority self.now thread }
@@ -25,7 +25,8 @@ impl Facts {
         own
     }
 
-    /// Returns the first mutex after a place that a thread owns, or `None` if it owns none there. Reads each mutex that it owns.
+    /// Returns the first mutex after a place that a thread owns, or `None` if it owns none there.
+    /// Reads each mutex that it owns.
     pub fn next_owned(&self, thread: ThreadPlace, after: MutexPlace) -> Option<MutexPlace>
         ensures { IsNextOwned self.now thread after result }
     {
@@ -36,7 +37,8 @@ impl Facts {
         next
     }
 
-    /// Returns the lower of the next mutex so far and another one, if that is after a place and the thread owns it.
+    /// Returns the lower of the next mutex so far and another one, if that is after a place and the
+    /// thread owns it.
     fn nearer(
         &self,
         thread: ThreadPlace,

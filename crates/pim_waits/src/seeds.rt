@@ -13,7 +13,8 @@ use pim_fact_lines::Protocol;
 use std::alloc::AllocError;
 
 impl Facts {
-    /// Returns whether a mutex gives its owner nothing: it has no ceiling, and no thread waits for it.
+    /// Returns whether a mutex gives its owner nothing: it has no ceiling, and no thread waits for
+    /// it.
     fn is_idle(&self, mutex: MutexPlace) -> bool
         ensures { result ≡ true → IsIdle self.now mutex }
     {
@@ -31,7 +32,8 @@ impl Facts {
     pub fn add_owner(&self, mutex: MutexPlace, component: &mut Component) -> Result<(), AllocError>
         requires { component.old.room ≡ length self.now.base }
         ensures extends { OnOk result (Extends component.old component.new) }
-        ensures owner { OnOk result ((t : ℕ) → owner_of self.now mutex ≡ Some t → contains component.new.threads t ≡ true) }
+        ensures owner { OnOk result
+            ((t : ℕ) → owner_of self.now mutex ≡ Some t → contains component.new.threads t ≡ true) }
         ensures room { component.new.room ≡ component.old.room }
     {
         let _threads = self.threads(); // owners are known threads, as its contract says
@@ -41,8 +43,8 @@ impl Facts {
         }
     }
 
-    /// Adds the threads that another owner of a mutex is about: those that wait for it, its owner and its new owner. If it
-    /// gives its owner nothing, there are none.
+    /// Adds the threads that another owner of a mutex is about: those that wait for it, its owner
+    /// and its new owner. If it gives its owner nothing, there are none.
     ///
     /// # Errors
     ///
@@ -55,7 +57,8 @@ impl Facts {
     ) -> Result<(), AllocError>
         requires room { component.old.room ≡ length self.now.base }
         requires known { (t : ℕ) → owner.now ≡ Some t → (1 ≤ t) × (t ≤ length self.now.base) }
-        ensures sides { OnOk result (IsIdle self.now mutex ⊎ HasSides self.now mutex owner.now component.new.threads) }
+        ensures sides { OnOk result
+            (IsIdle self.now mutex ⊎ HasSides self.now mutex owner.now component.new.threads) }
         ensures room { component.new.room ≡ component.old.room }
     {
         if self.is_idle(mutex) {
@@ -69,8 +72,8 @@ impl Facts {
         Ok(())
     }
 
-    /// Adds the threads that another wait of a thread is about: the thread, and the owner of the mutex that it will await. If
-    /// that has none, nor the mutex that it awaits, there are none.
+    /// Adds the threads that another wait of a thread is about: the thread, and the owner of the
+    /// mutex that it will await. If that has none, nor the mutex that it awaits, there are none.
     ///
     /// # Errors
     ///
@@ -83,7 +86,8 @@ impl Facts {
     ) -> Result<(), AllocError>
         requires room { component.old.room ≡ length self.now.base }
         requires known { (1 ≤ thread) × (thread ≤ length self.now.base) }
-        ensures ends { OnOk result (IsFree self.now thread mutex.now ⊎ HasEnds self.now thread mutex.now component.new.threads) }
+        ensures ends { OnOk result (IsFree self.now thread mutex.now
+            ⊎ HasEnds self.now thread mutex.now component.new.threads) }
         ensures room { component.new.room ≡ component.old.room }
     {
         let after = match mutex {

@@ -1,6 +1,7 @@
 //! Works out anew what the threads of a component get.
 
-ghost use Rattle.std.specs.Prelude.{◌≡◌, ◌≤◌, ◌<◌, ◌==◌, ◌||◌, true, false, Some, ℕ, Bool, length, MatchOption};
+ghost use Rattle.std.specs.Prelude.{◌≡◌, ◌≤◌, ◌<◌, ◌==◌, ◌||◌, true, false, Some, ℕ, Bool, length};
+ghost use Rattle.std.specs.Prelude.{MatchOption};
 ghost use Rattle.pim_base.specs.Lists.{contains};
 ghost use Rattle.pim_base.specs.State.{State, IsTask};
 ghost use Rattle.pim_base.specs.Chains.{heir};
@@ -14,10 +15,12 @@ use crate::facts::Facts;
 use crate::place::{ThreadPlace, nth, put};
 use pim_fact_lines::Level;
 
-/// Works out anew what the threads of a component get. Reads no other threads, and no mutexes but those that they own.
+/// Works out anew what the threads of a component get. Reads no other threads, and no mutexes but
+/// those that they own.
 ///
 /// 1. `[1]` Give each thread its own level.
-/// 2. `[2]` From each thread on, raise its heir to what it gets, and the heir's heir, until one gets as much.
+/// 2. `[2]` From each thread on, raise its heir to what it gets, and the heir's heir, until one
+///    gets as much.
 pub(crate) fn settle(facts: &Facts, gets: &mut Vec<Level>, component: &Component)
     requires room { component.now.room ≡ length facts.now.base }
     requires len { length gets.old.items ≡ length facts.now.base }
@@ -43,15 +46,18 @@ fn reset(facts: &Facts, gets: &mut Vec<Level>, members: &[ThreadPlace])
     requires known { (t : ℕ) → contains members.now t ≡ true → IsTask facts.now t }
     requires len { length gets.old.items ≡ length facts.now.base }
     ensures len { length gets.new.items ≡ length gets.old.items }
-    ensures inside { (t : ℕ) → contains members.now t ≡ true → level_at gets.new.items t ≡ own_priority facts.now t }
-    ensures outside { (t : ℕ) → contains members.now t ≡ false → level_at gets.new.items t ≡ level_at gets.old.items t }
+    ensures inside { (t : ℕ)
+        → contains members.now t ≡ true → level_at gets.new.items t ≡ own_priority facts.now t }
+    ensures outside { (t : ℕ)
+        → contains members.now t ≡ false → level_at gets.new.items t ≡ level_at gets.old.items t }
 {
     for thread in members {
         put(gets, thread.0, facts.own(*thread));
     }
 }
 
-/// Raises the heir of a thread to what the thread gets, and the heir's heir, until one gets as much.
+/// Raises the heir of a thread to what the thread gets, and the heir's heir, until one gets as
+/// much.
 fn pass_on(facts: &Facts, gets: &mut Vec<Level>, thread: ThreadPlace)
     requires whole { IsWhole facts.now }
     requires len { length gets.old.items ≡ length facts.now.base }
@@ -78,7 +84,8 @@ fn lower_heir(
     level: Level,
 ) -> Option<ThreadPlace>
     ensures { MatchOption result
-        ((t : ℕ) → heir facts.now thread ≡ Some t → 1 ≤ t → t ≤ length gets.now → level ≤ level_at gets.now t)
+        ((t : ℕ) → heir facts.now thread ≡ Some t
+        → 1 ≤ t → t ≤ length gets.now → level ≤ level_at gets.now t)
         (λ t. IsLower facts.now gets.now thread level t) }
 {
     let heir = facts.heir(thread)?;

@@ -3,7 +3,8 @@
 ghost use Rattle.std.specs.Prelude.{◌≡◌, ◌++◌, ◌+◌, ◌∷◌, [], length, OnOk, OnErr, IfSome, None, ℕ};
 ghost use Rattle.std.specs.Option.{option_map};
 ghost use Rattle.pim_base.specs.Lists.{nth};
-ghost use Rattle.pim_base.specs.State.{IsTask, IsMutex, start, owner_of, count_of, wait_of, with_owner, with_count, with_wait, with_base, with_ceiling};
+ghost use Rattle.pim_base.specs.State.{IsTask, IsMutex, start, owner_of, count_of, wait_of};
+ghost use Rattle.pim_base.specs.State.{with_owner, with_count, with_wait, with_base, with_ceiling};
 ghost use Rattle.pim_base.specs.Chains.{blocker, heir};
 ghost use Rattle.pim_base.specs.Priorities.{own_priority};
 ghost use Rattle.pim_waits.specs.Model.{protocol_in_model, wait_for};
@@ -23,9 +24,10 @@ use std::marker::Model;
 
 /// Who owns and awaits what, and what each thread gets.
 ///
-/// A change works out anew what the threads of a component get: of all that wait for each other because of it, or did before.
-/// It appends these threads to a list. Every other thread is untouched: it gets what it got, and has the same runner and the
-/// same mutex to blame. A change costs nothing for these.
+/// A change works out anew what the threads of a component get: of all that wait for each other
+/// because of it, or did before. It appends these threads to a list. Every other thread is
+/// untouched: it gets what it got, and has the same runner and the same mutex to blame. A change
+/// costs nothing for these.
 pub struct Waits {
     pub(crate) facts: Facts,
     /// What each thread gets.
@@ -46,7 +48,8 @@ impl Model for Waits {
     ghost invariant = { IsSettled };
 }
 
-// Each place that drops it calls this one function, where a derived drop would be a call for each part there.
+// Each place that drops it calls this one function, where a derived drop would be a call for each
+// part there.
 impl Drop for Waits {
     fn drop(self) {
         let Waits {
@@ -132,8 +135,8 @@ impl Waits {
         self.facts.heir(thread)
     }
 
-    /// Returns what a thread has by itself: the highest of its level and the ceilings of the PROTECT mutexes that it owns.
-    /// Reads each mutex that it owns.
+    /// Returns what a thread has by itself: the highest of its level and the ceilings of the
+    /// PROTECT mutexes that it owns. Reads each mutex that it owns.
     pub fn own(&self, thread: ThreadPlace) -> Level
         requires { IsTask self.now thread }
         ensures { result ≡ own_priority self.now thread }
@@ -141,7 +144,8 @@ impl Waits {
         self.facts.own(thread)
     }
 
-    /// Returns the first mutex after a place that a thread owns, or `None` if it owns none there. Reads each mutex that it owns.
+    /// Returns the first mutex after a place that a thread owns, or `None` if it owns none there.
+    /// Reads each mutex that it owns.
     pub fn next_owned(&self, thread: ThreadPlace, after: MutexPlace) -> Option<MutexPlace>
         ensures { IsNextOwned self.now thread after result }
     {
@@ -183,8 +187,8 @@ impl Waits {
         Ok(())
     }
 
-    /// Gives a mutex to a thread that has locked it once, or frees it. Touches no thread if nobody awaits the mutex and it has no
-    /// ceiling.
+    /// Gives a mutex to a thread that has locked it once, or frees it. Touches no thread if nobody
+    /// awaits the mutex and it has no ceiling.
     ///
     /// # Errors
     ///
@@ -197,7 +201,8 @@ impl Waits {
     ) -> Result<(), AllocError>
         requires { IfSome owner (IsTask self.old) }
         ensures ok { OnOk result (self.new ≡ with_owner self.old mutex owner) }
-        ensures touched { OnOk result (Touches self.old self.new touched.old.items touched.new.items) }
+        ensures touched { OnOk result
+            (Touches self.old self.new touched.old.items touched.new.items) }
         ensures err { OnErr result (self.new ≡ self.old) }
     {
         self.component.start(self.facts.threads())?;
@@ -208,15 +213,16 @@ impl Waits {
         Ok(())
     }
 
-    /// Puts how often its owner has locked a mutex and not unlocked it. What threads get doesn't depend on it.
+    /// Puts how often its owner has locked a mutex and not unlocked it. What threads get doesn't
+    /// depend on it.
     pub fn put_count(&mut self, mutex: MutexPlace, count: u64)
         ensures { self.new ≡ with_count self.old mutex count }
     {
         self.facts.put_count(mutex, count);
     }
 
-    /// Puts the mutex for which a thread waits, or that it doesn't wait. Touches no thread if that mutex is free, and so is the
-    /// one for which it waited.
+    /// Puts the mutex for which a thread waits, or that it doesn't wait. Touches no thread if that
+    /// mutex is free, and so is the one for which it waited.
     ///
     /// # Errors
     ///
@@ -229,8 +235,10 @@ impl Waits {
     ) -> Result<(), AllocError>
         requires thread { IsTask self.old thread }
         requires mutex { IfSome mutex (IsMutex self.old) }
-        ensures ok { OnOk result (self.new ≡ with_wait self.old thread (option_map wait_for mutex)) }
-        ensures touched { OnOk result (Touches self.old self.new touched.old.items touched.new.items) }
+        ensures ok { OnOk result
+            (self.new ≡ with_wait self.old thread (option_map wait_for mutex)) }
+        ensures touched { OnOk result
+            (Touches self.old self.new touched.old.items touched.new.items) }
         ensures err { OnErr result (self.new ≡ self.old) }
     {
         self.component.start(self.facts.threads())?;
@@ -254,7 +262,8 @@ impl Waits {
     ) -> Result<(), AllocError>
         requires { IsTask self.old thread }
         ensures ok { OnOk result (self.new ≡ with_base self.old thread level) }
-        ensures touched { OnOk result (Touches self.old self.new touched.old.items touched.new.items) }
+        ensures touched { OnOk result
+            (Touches self.old self.new touched.old.items touched.new.items) }
         ensures err { OnErr result (self.new ≡ self.old) }
     {
         self.component.start(self.facts.threads())?;
@@ -277,7 +286,8 @@ impl Waits {
         touched: &mut Vec<ThreadPlace>,
     ) -> Result<(), AllocError>
         ensures ok { OnOk result (self.new ≡ with_ceiling self.old mutex ceiling) }
-        ensures touched { OnOk result (Touches self.old self.new touched.old.items touched.new.items) }
+        ensures touched { OnOk result
+            (Touches self.old self.new touched.old.items touched.new.items) }
         ensures err { OnErr result (self.new ≡ self.old) }
     {
         self.component.start(self.facts.threads())?;

@@ -8,10 +8,12 @@ use crate::waits::Waits;
 use pim_fact_lines::Level;
 
 impl Waits {
-    /// Returns the thread that has to run for the wait of a thread to end. There is none if the thread doesn't wait, while the
-    /// mutex that it awaits is free, or if its way leads into a cycle.
+    /// Returns the thread that has to run for the wait of a thread to end. There is none if the
+    /// thread doesn't wait, while the mutex that it awaits is free, or if its way leads into a
+    /// cycle.
     ///
-    /// Follows the way of the thread. If that leads into a cycle, as many hops as there are threads.
+    /// Follows the way of the thread. If that leads into a cycle, as many hops as there are
+    /// threads.
     pub fn runner(&self, thread: ThreadPlace) -> Option<ThreadPlace>
         ensures { result ≡ runner self.now thread }
     {
@@ -36,10 +38,11 @@ impl Waits {
         last
     }
 
-    /// Returns the mutex to blame if a thread is inverted: the first one on its way whose owner gets less than the thread.
+    /// Returns the mutex to blame if a thread is inverted: the first one on its way whose owner
+    /// gets less than the thread.
     ///
-    /// Follows the way of the thread to that mutex. If there is none and the way leads into a cycle, as many hops as there are
-    /// threads.
+    /// Follows the way of the thread to that mutex. If there is none and the way leads into a
+    /// cycle, as many hops as there are threads.
     pub fn blame(&self, thread: ThreadPlace) -> Option<MutexPlace>
         ensures { result ≡ blame self.now thread }
     {

@@ -7,7 +7,10 @@ abbrev pub invariant-loop-thread : goal.invariant-loop-thread
 invariant-loop-thread l = record {
   extends : Extends l.fn.component l.component;
   few : l.done ≤ length l.component.threads;
-  each : (k : ℕ) → k < l.done → HasNeighbours l.facts l.component.threads (get_or l.component.threads k 0);
+  each :
+      (k : ℕ)
+      → k < l.done
+      → HasNeighbours l.facts l.component.threads (get_or l.component.threads k 0);
 }
 
 abbrev pub decreases-loop-thread : goal.decreases-loop-thread

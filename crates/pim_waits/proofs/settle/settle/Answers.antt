@@ -8,5 +8,6 @@ loop-thread-init c = record {
   len = c.reset.ensures.len;
   flows = λ before around flows.
       flows_again before c.args.facts.now (contains c.members-members.result.now) around
-      (level_at c.args.gets.now.items) (level_at c.reset.new.gets.items) flows c.reset.ensures.inside c.reset.ensures.outside;
+      (level_at c.args.gets.now.items)
+      (level_at c.reset.new.gets.items) flows c.reset.ensures.inside c.reset.ensures.outside;
 }

@@ -11,7 +11,9 @@ returns-clause-blocked c t e =
     let mutexes = c.of-mutex-items.result.now in
     let way = through c.args.self.now t c.args.thread e in
     let listed : contains mutexes way.mutex ≡ true =
-    ap (λ ms. contains ms way.mutex) (c.of-mutex-items.ensures ∙ ap (group_of c.self.inside.owned) c.thread.view_is)
-    ∙ c.self.invariant.owned way.mutex c.args.thread (ap (λ T. owner_of T way.mutex) c.self.view_is ∙ way.owner) in
+    ap (λ ms. contains ms way.mutex)
+    (c.of-mutex-items.ensures ∙ ap (group_of c.self.inside.owned) c.thread.view_is)
+    ∙ c.self.invariant.owned way.mutex c.args.thread
+    (ap (λ T. owner_of T way.mutex) c.self.view_is ∙ way.owner) in
     let at = contains_at mutexes way.mutex listed in
     c.loop-mutex.invariant.each at.0 (omega (arith, at.1)) t (way.awaits ∙ ap Some (sym at.2))

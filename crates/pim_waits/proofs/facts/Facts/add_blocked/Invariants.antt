@@ -8,5 +8,10 @@ use Rattle.pim_waits.proofs.facts.Facts.add_blocked.Given as goal
 abbrev pub invariant-loop-mutex : goal.invariant-loop-mutex
 invariant-loop-mutex l = record {
   extends : Extends l.fn.component l.component;
-  each : (k : ℕ) → k < l.mutex-index → (t : ℕ) → awaited_of l.self t ≡ Some (get_or l.mutex-items k 0) → contains l.component.threads t ≡ true;
+  each :
+      (k : ℕ)
+      → k < l.mutex-index
+      → (t : ℕ)
+      → awaited_of l.self t ≡ Some (get_or l.mutex-items k 0)
+      → contains l.component.threads t ≡ true;
 }

@@ -11,9 +11,11 @@ invariant_of-self-2 c =
     let f = c.self.inside in
     subst (λ S. AreListed S f.owned f.waiting)
     (same_state
-    (sym (c.push_reserved.ensures.items ∙ ap (λ xs. xs ++ c.args.level ∷ []) c.in_ok-reserve.ensures.items))
+    (sym (c.push_reserved.ensures.items
+    ∙ ap (λ xs. xs ++ c.args.level ∷ []) c.in_ok-reserve.ensures.items))
     refl refl refl
-    (sym (ap (map (option_map wait_for)) (c.push_reserved-2.ensures.items ∙ ap (λ xs. xs ++ None ∷ []) c.in_ok-reserve-2.ensures.items)
+    (sym (ap (map (option_map wait_for)) (c.push_reserved-2.ensures.items
+    ∙ ap (λ xs. xs ++ None ∷ []) c.in_ok-reserve-2.ensures.items)
     ∙ map-append (option_map wait_for) f.awaited.items (None ∷ [])))
     refl)
     (listed_thread (state_of f) f.owned f.waiting c.args.level c.self.invariant)

@@ -15,5 +15,6 @@ returns c h t e =
     ap (λ ts. contains ts t) (c.of.ensures ∙ ap (group_of c.self.inside.waiting) c.mutex.view_is)
     ∙ c.self.invariant.waiting t c.args.mutex (ap (λ T. awaited_of T t) c.self.view_is ∙ e) in
     let at = contains_at members t listed in
-    let none : length members ≡ 0 = eqb-true (length members) 0 (sym c.is_empty.ensures ∙ no_not c.is_empty.result h) in
+    let none : length members ≡ 0 =
+    eqb-true (length members) 0 (sym c.is_empty.ensures ∙ no_not c.is_empty.result h) in
     absurd (omega (arith, at.1, none))

@@ -15,7 +15,10 @@ returns c =
     let mutexes = c.of-mutex-items.result.now in
     let listed : (m : ℕ) → owner_of S m ≡ Some t → contains mutexes m ≡ true =
     λ m owner.
-    ap (λ ms. contains ms m) (c.of-mutex-items.ensures ∙ ap (group_of c.self.inside.owned) c.thread.view_is)
+    ap (λ ms. contains ms m)
+    (c.of-mutex-items.ensures ∙ ap (group_of c.self.inside.owned) c.thread.view_is)
     ∙ c.self.invariant.owned m t (ap (λ T. owner_of T m) c.self.view_is ∙ owner) in
-    next_owned_is S t c.args.after mutexes (subst IsWhole c.self.view_is c.self.invariant.whole) listed c.loop-mutex.next
-    (sym (ap (fold (nearer S t c.args.after) c.loop-mutex.next) (drop_all c.loop-mutex.mutex-index mutexes c.loop-mutex-test.false)) ∙ c.loop-mutex.invariant)
+    next_owned_is S t c.args.after mutexes
+    (subst IsWhole c.self.view_is c.self.invariant.whole) listed c.loop-mutex.next
+    (sym (ap (fold (nearer S t c.args.after) c.loop-mutex.next) (drop_all
+    c.loop-mutex.mutex-index mutexes c.loop-mutex-test.false)) ∙ c.loop-mutex.invariant)

@@ -9,5 +9,8 @@ abbrev pub invariant-loop-mutex : goal.invariant-loop-mutex
 invariant-loop-mutex l = record {
   most : l.own ≤ own_priority l.self l.thread;
   base : base_of l.self l.thread ≤ l.own;
-  each : (k : ℕ) → k < l.mutex-index → ceiling_for l.self (get_or l.mutex-items k 0) l.thread ≤ l.own;
+  each :
+      (k : ℕ)
+      → k < l.mutex-index
+      → ceiling_for l.self (get_or l.mutex-items k 0) l.thread ≤ l.own;
 }

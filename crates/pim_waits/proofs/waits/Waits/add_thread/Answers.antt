@@ -15,10 +15,13 @@ invariant_of-self-2 c =
     let old = c.self.invariant in
     let is = c.in_ok-add_thread.ensures.ok in
     let more : c.push_reserved.new.self.items ≡ levels ++ c.args.level ∷ [] =
-    c.push_reserved.ensures.items ∙ ap (λ ls. ls ++ c.args.level ∷ []) c.in_ok-reserve.ensures.items in
+    c.push_reserved.ensures.items
+    ∙ ap (λ ls. ls ++ c.args.level ∷ []) c.in_ok-reserve.ensures.items in
     let whole : IsWhole T = whole_thread S c.args.level old.whole in
-    let flows : Flows T (level_at (levels ++ c.args.level ∷ [])) nobody = flows_thread S c.args.level old.whole whole levels old.len old.flows in
-    let tasks : length c.add_thread.new.self.base ≡ suc (length S.base) = ap (λ (X : State). length X.base) is ∙ length-push S.base c.args.level in
+    let flows : Flows T (level_at (levels ++ c.args.level ∷ [])) nobody =
+    flows_thread S c.args.level old.whole whole levels old.len old.flows in
+    let tasks : length c.add_thread.new.self.base ≡ suc (length S.base) =
+    ap (λ (X : State). length X.base) is ∙ length-push S.base c.args.level in
     record {
       whole = subst IsWhole (sym is) whole;
       len = ap length more ∙ length-push levels c.args.level ∙ ap suc old.len ∙ sym tasks;

@@ -9,4 +9,5 @@ use Rattle.pim_waits.proofs.waits.Waits.blame.Given as goal
 abbrev pub invariant-loop-hop : goal.invariant-loop-hop
 invariant-loop-hop l =
     blame l.self l.fn.thread
-    ≡ first_item (filter_map (passes_less l.self l.level) (chain (blocker l.self) (length l.self.base - l._hop) l.at))
+    ≡ first_item (filter_map
+    (passes_less l.self l.level) (chain (blocker l.self) (length l.self.base - l._hop) l.at))

@@ -5,4 +5,6 @@ use Rattle.pim_waits.proofs.waits.Waits.end_of_way.Given as goal
 
 -- the rest of the way has the same end
 abbrev pub invariant-loop-hop : goal.invariant-loop-hop
-invariant-loop-hop l = last_item (way l.self l.fn.thread) ≡ last_item (chain (blocker l.self) (length l.self.base - l._hop) l.last)
+invariant-loop-hop l =
+    last_item (way l.self l.fn.thread)
+    ≡ last_item (chain (blocker l.self) (length l.self.base - l._hop) l.last)

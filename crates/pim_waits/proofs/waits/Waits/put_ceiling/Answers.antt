@@ -9,25 +9,39 @@ use Rattle.pim_waits.proofs.Changing.{around_ceiling}
 use Rattle.pim_waits.proofs.Settling.{touches}
 use Rattle.pim_waits.proofs.waits.Waits.put_ceiling.Goals as goal
 
-around : (c : goal.After-settle) → Around c.self.inside.facts c.put_ceiling.new.self (contains c.gather.new.component.threads)
+around :
+    (c : goal.After-settle)
+    → Around c.self.inside.facts c.put_ceiling.new.self (contains c.gather.new.component.threads)
 around c =
     let S = c.self.inside.facts in
     let members = c.gather.new.component in
     subst (λ T. Around S T (contains members.threads)) (sym c.put_ceiling.ensures)
     (around_ceiling S c.args.mutex c.args.ceiling members.threads c.self.invariant.whole
     (subst IsWhole c.put_ceiling.ensures c.settle.ensures.whole) c.in_ok-gather.ensures.closed
-    (λ t e. extends-contains c.add_owner.new.component members t c.in_ok-gather.ensures.extends (c.in_ok-add_owner.ensures.owner t e)))
+    (λ t e. extends-contains c.add_owner.new.component members t c.in_ok-gather.ensures.extends
+    (c.in_ok-add_owner.ensures.owner t e)))
 
 pub invariant_of-self-2 : goal.invariant_of-self-2
 invariant_of-self-2 c = record {
   whole = c.settle.ensures.whole;
   len = omega (arith, c.settle.ensures.len, c.self.invariant.len, (around c).tasks);
   flows = c.settle.ensures.flows c.self.inside.facts (around c) c.self.invariant.flows;
-  room = omega (arith, c.in_ok-gather.ensures.room, c.in_ok-add_owner.ensures.room, ap (λ (m : Members). m.room) c.in_ok-start.ensures.ok, c.threads.ensures.count, (around c).tasks);
+  room =
+      omega (
+        arith,
+        c.in_ok-gather.ensures.room,
+        c.in_ok-add_owner.ensures.room,
+        ap (λ (m : Members).
+            m.room) c.in_ok-start.ensures.ok,
+        c.threads.ensures.count,
+        (around c).tasks,
+      );
 }
 
 pub returns-clause-touched : goal.returns-clause-touched
 returns-clause-touched c =
-    subst (λ S. Touches S c.put_ceiling.new.self c.args.touched.now.items c.gather.new.touched.items) c.self.view_is
-    (touches c.self.inside.facts c.put_ceiling.new.self c.gather.new.component.threads c.args.touched.now.items c.gather.new.touched.items (around c)
+    subst (λ S. Touches
+    S c.put_ceiling.new.self c.args.touched.now.items c.gather.new.touched.items) c.self.view_is
+    (touches c.self.inside.facts c.put_ceiling.new.self c.gather.new.component.threads
+    c.args.touched.now.items c.gather.new.touched.items (around c)
     c.in_ok-gather.ensures.appended)
