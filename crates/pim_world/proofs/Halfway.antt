@@ -1,7 +1,6 @@
 -- One line more, and the first invalid one.
-use Rattle.std.proofs.Common.{◌≡◌, ℕ, suc, ◌+◌, ◌-◌, List, ◌∷◌, take}
-use Rattle.std.proofs.Common.{arith, refl, sym, ap, ◌∙◌, inr, true, false, is_some}
-use Rattle.std.proofs.Common.{Option, Some, None, MatchOption}
+use Rattle.std.proofs.Common.{◌≡◌, ℕ, suc, ◌+◌, ◌-◌, List, ◌∷◌, take, arith, refl, sym, ap, ◌∙◌}
+use Rattle.std.proofs.Common.{inr, true, false, is_some, Option, Some, None, MatchOption}
 use Rattle.std.specs.Option.{option_map}
 use Rattle.pim_fact_lines.specs.declared.line.Line.{Line}
 use Rattle.pim_fact_lines.specs.Lines.{given}
@@ -11,11 +10,13 @@ use Rattle.pim_world.specs.After.{after}
 use Rattle.pim_world.specs.Texts.{line_after, go_on, lines_after, lines_in, IsFirstInvalid}
 use Rattle.pim_world.proofs.Fronts.{is_some-option_map}
 
--- after `count` lines the world is w, and `rest` is left: all lines are a text, and so is a front of them, if what is left
--- of it may follow
+-- after `count` lines the world is w, and `rest` is left: all lines are a text, and so is a front
+-- of them, if what is left of it may follow
 pub record Halfway (all rest : List (List ℕ)) (w : World) (count : ℕ) : Type 0 where
   pub whole : is_some (lines_in all) ≡ is_some (lines_after w rest)
-  pub front : (k : ℕ) → is_some (lines_in (take (count + k) all)) ≡ is_some (lines_after w (take k rest))
+  pub front :
+      (k : ℕ)
+      → is_some (lines_in (take (count + k) all)) ≡ is_some (lines_after w (take k rest))
 
 -- the first line is the version
 pub begins :
@@ -87,7 +88,8 @@ pub bad_next :
 bad_next {all} {left} {w} {count} line rest e half refused =
     let before : count + 1 - 1 ≡ count + 0 = omega arith in
     let none : is_some (lines_in (take (count + 1) all)) ≡ false =
-    half.front 1 ∙ ap (λ ls. is_some (lines_after w (take 1 ls))) e ∙ none_more w line (take 0 rest) refused in (
+    half.front 1 ∙ ap (λ ls. is_some (lines_after w (take 1 ls))) e
+    ∙ none_more w line (take 0 rest) refused in (
       inr (rw before (half.front 0)),
       omega arith,
       λ valid. let bad : false ≡ true = sym none ∙ valid in cc,
@@ -95,10 +97,18 @@ bad_next {all} {left} {w} {count} line rest e half refused =
 
 -- ---- whether a line was taken
 
-pub refused : {T : Type 0} (why : Option T) (P Q : Type 0) (x : T) → why ≡ Some x → MatchOption why P (λ _. Q) → Q
+pub refused :
+    {T : Type 0} (why : Option T) (P Q : Type 0) (x : T)
+    → why ≡ Some x
+    → MatchOption why P (λ _. Q)
+    → Q
 refused None P Q x e h = cc
 refused (Some y) P Q x e h = h
 
-pub taken : {T : Type 0} (why : Option T) (P Q : Type 0) → why ≡ None → MatchOption why P (λ _. Q) → P
+pub taken :
+    {T : Type 0} (why : Option T) (P Q : Type 0)
+    → why ≡ None
+    → MatchOption why P (λ _. Q)
+    → P
 taken None P Q e h = h
 taken (Some y) P Q e h = cc

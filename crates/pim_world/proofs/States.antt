@@ -1,9 +1,11 @@
 -- What a change of owners, waits, levels and ceilings leaves in order.
-use Rattle.std.proofs.Common.{◌≡◌, ℕ, Bool, true, false, cond, length, Option, Some, None, IfSome, is_some, nat_lt, inl, inr, refl, sym, ◌∙◌, ap, subst, arith}
+use Rattle.std.proofs.Common.{◌≡◌, ℕ, Bool, true, false, cond, length, Option, Some, None, IfSome}
+use Rattle.std.proofs.Common.{is_some, nat_lt, inl, inr, refl, sym, ◌∙◌, ap, subst, arith}
 use Rattle.std.specs.Prelude.{◌+◌, ◌-◌}
 use Rattle.std.proofs.lemmas.Bool.{cases_eq, ne_eqb, eq-eqb}
 use Rattle.std.proofs.lemmas.Option.{same_Some}
-use Rattle.pim_base.specs.State.{State, IsTask, owner_of, count_of, with_wait, with_owner, with_count, with_base, with_ceiling}
+use Rattle.pim_base.specs.State.{State, IsTask, owner_of, count_of, with_wait, with_owner}
+use Rattle.pim_base.specs.State.{with_count, with_base, with_ceiling}
 use Rattle.pim_base.specs.declared.steps.Protocol.{Protocol}
 use Rattle.pim_base.specs.declared.steps.Wait.{Wait}
 use Rattle.pim_base.proofs.Places.{length-put}
@@ -40,7 +42,8 @@ like_base S t level whole = record {
       owners = whole.lists.owners;
       counts = whole.lists.counts;
     };
-    owners = λ m u e. let task = whole.owners m u e in omega (arith, task, length-put S.base t level);
+    owners =
+        λ m u e. let task = whole.owners m u e in omega (arith, task, length-put S.base t level);
   };
   tasks = length-put S.base t level;
   mutexes = refl;
@@ -48,7 +51,8 @@ like_base S t level whole = record {
 
 pub like_ceiling : (S : State) (m c : ℕ) → IsWhole S → IsLike S (with_ceiling S m c)
 like_ceiling S m c whole =
-    let same : length (with_ceiling S m c).protocol ≡ length S.protocol = length-put S.protocol m (Protocol.Protect c) in
+    let same : length (with_ceiling S m c).protocol ≡ length S.protocol =
+    length-put S.protocol m (Protocol.Protect c) in
     record {
       whole = record {
         lists = record {
@@ -66,7 +70,11 @@ known : (S : State) (o : Option ℕ) (t : ℕ) → IfSome o (IsTask S) → o ≡
 known S None t is e = cc
 known S (Some u) t is e = subst (IsTask S) (same_Some u t e) is
 
-pub like_owner : (S : State) (m : ℕ) (o : Option ℕ) → IfSome o (IsTask S) → IsWhole S → IsLike S (with_owner S m o)
+pub like_owner :
+    (S : State) (m : ℕ) (o : Option ℕ)
+    → IfSome o (IsTask S)
+    → IsWhole S
+    → IsLike S (with_owner S m o)
 like_owner S m o is whole = record {
   whole = record {
     lists = record {
@@ -92,7 +100,9 @@ like_count S m k whole = record { whole = whole_count S m k whole; tasks = refl;
 pub like_locked : (S : State) (t m : ℕ) → IsTask S t → IsWhole S → IsLike S (locked S t m)
 like_locked S t m task whole = go (is_some (owner_of S m))
   where
-    go : (b : Bool) → IsLike S (cond b (with_count S m (count_of S m + 1)) (with_owner S m (Some t)))
+    go :
+        (b : Bool)
+        → IsLike S (cond b (with_count S m (count_of S m + 1)) (with_owner S m (Some t)))
     go true = like_count S m _ whole
     go false = like_owner S m (Some t) task whole
 

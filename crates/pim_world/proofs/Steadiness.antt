@@ -1,5 +1,7 @@
 -- The world after each text is steady.
-use Rattle.std.proofs.Common.{◌≡◌, ℕ, zero, suc, ◌++◌, List, [], ◌∷◌, Bool, true, false, not, cond, length, length-append, Option, Some, None, is_none, inl, inr, refl, sym, ◌∙◌, ap, subst, arith, if◌then◌else◌}
+use Rattle.std.proofs.Common.{◌≡◌, ℕ, zero, suc, ◌++◌, List, [], ◌∷◌, Bool, true, false, not, cond}
+use Rattle.std.proofs.Common.{length, length-append, Option, Some, None, is_none, inl, inr, refl}
+use Rattle.std.proofs.Common.{sym, ◌∙◌, ap, subst, arith, if◌then◌else◌}
 use Rattle.std.specs.Prelude.{◌+◌}
 use Rattle.std.specs.List.{fold}
 use Rattle.std.specs.Option.{option_map}
@@ -24,7 +26,8 @@ use Rattle.pim_world.specs.Texts.{line_after, lines_after}
 use Rattle.pim_world.specs.Laws.{SteadyLaw}
 use Rattle.pim_world.specs.Steady.{IsSteadyKernel, IsSteady}
 use Rattle.pim_world.proofs.Cpus.{steady_runs, steady_forgotten, steady_more, steady_on, steady_off}
-use Rattle.pim_world.proofs.States.{IsLike, like_wait, like_base, like_ceiling, like_locked, like_unlocked, like_then}
+use Rattle.pim_world.proofs.States.{IsLike, like_wait, like_base, like_ceiling, like_locked}
+use Rattle.pim_world.proofs.States.{like_unlocked, like_then}
 
 -- ---- declarations
 
@@ -36,8 +39,10 @@ declared_last :
     → Q last
     → (k t : ℕ) → set number (Some last) place k ≡ Some t → Q t
 declared_last {Q = Q} place number last before more is k t e = elim (cases_eq number k) [
-  | inl same ↦ subst Q (same_Some last t (sym (ap (λ b. cond b (Some last) (place k)) (eq-eqb number k same)) ∙ e)) is
-  | inr other ↦ more t (before k t (sym (ap (λ b. cond b (Some last) (place k)) (ne_eqb number k other)) ∙ e))
+  | inl same ↦ subst Q (same_Some last t
+      (sym (ap (λ b. cond b (Some last) (place k)) (eq-eqb number k same)) ∙ e)) is
+  | inr other ↦
+      more t (before k t (sym (ap (λ b. cond b (Some last) (place k)) (ne_eqb number k other)) ∙ e))
 ]
 
 -- the thread at each place is the one of its number, with one thread more, whose number is new
@@ -54,14 +59,22 @@ places_more place threads number last before new one n t e = elim (cases_lt (len
       ap (λ b. cond b (Some last) (place n)) (ne_eqb number n other) ∙ there
   | inl late ↦
       let within = nth_within (threads ++ number ∷ []) t n e in
-      let is : t ≡ suc (length threads) = omega (arith, within.1, late, length-append threads (number ∷ [])) in
-      let same : number ≡ n = same_Some number n (sym (ap (nth (threads ++ number ∷ [])) is ∙ nth-last threads number) ∙ e) in
-      ap (λ b. cond b (Some last) (place n)) (eq-eqb number n same) ∙ ap Some (omega (arith, one, is))
+      let is : t ≡ suc (length threads) =
+      omega (arith, within.1, late, length-append threads (number ∷ [])) in
+      let same : number ≡ n = same_Some number n
+      (sym (ap (nth (threads ++ number ∷ [])) is ∙ nth-last threads number) ∙ e) in
+      ap (λ b. cond b (Some last) (place n)) (eq-eqb number n same)
+      ∙ ap Some (omega (arith, one, is))
 ]
 
-steady_thread : (w : World) (t level : ℕ) → w.thread t ≡ None → IsSteady w → IsSteady (after w (lines.Thread t level))
+steady_thread :
+    (w : World) (t level : ℕ)
+    → w.thread t ≡ None
+    → IsSteady w
+    → IsSteady (after w (lines.Thread t level))
 steady_thread w t level new s =
-    let len : length (w.state.base ++ level ∷ []) ≡ length w.state.base + 1 = length-append w.state.base (level ∷ []) in
+    let len : length (w.state.base ++ level ∷ []) ≡ length w.state.base + 1 =
+    length-append w.state.base (level ∷ []) in
     record {
       state = whole_thread w.state level s.state;
       tasks =
@@ -72,13 +85,18 @@ steady_thread w t level new s =
       places =
           places_more w.thread w.threads t (length (w.state.base ++ level ∷ [])) s.places new
           (omega (arith, len, s.numbered));
-      kernel = subst (IsSteadyKernel _) (sym len) (steady_more w.kernel (length w.state.base) s.kernel);
+      kernel =
+          subst (IsSteadyKernel _) (sym len) (steady_more w.kernel (length w.state.base) s.kernel);
     }
 
-steady_mutex : (w : World) (m : ℕ) (is_recursive : Bool) (protocol : _) → IsSteady w → IsSteady (after w (lines.Mutex m is_recursive protocol))
+steady_mutex :
+    (w : World) (m : ℕ) (is_recursive : Bool) (protocol : _)
+    → IsSteady w
+    → IsSteady (after w (lines.Mutex m is_recursive protocol))
 steady_mutex w m is_recursive protocol s =
     let p = protocol_in_model protocol in
-    let len : length (w.state.protocol ++ p ∷ []) ≡ length w.state.protocol + 1 = length-append w.state.protocol (p ∷ []) in
+    let len : length (w.state.protocol ++ p ∷ []) ≡ length w.state.protocol + 1 =
+    length-append w.state.protocol (p ∷ []) in
     record {
       state = whole_mutex w.state p s.state;
       tasks = s.tasks;
@@ -103,7 +121,11 @@ steady_state w S s like = record {
   kernel = subst (IsSteadyKernel w.kernel) (sym like.tasks) s.kernel;
 }
 
-steady_kernel : (w : World) (k : Kernel) → IsSteady w → IsSteadyKernel k (length w.state.base) → IsSteady (record w { kernel = k })
+steady_kernel :
+    (w : World) (k : Kernel)
+    → IsSteady w
+    → IsSteadyKernel k (length w.state.base)
+    → IsSteady (record w { kernel = k })
 steady_kernel w k s kernel = record {
   state = s.state;
   tasks = s.tasks;
@@ -131,23 +153,32 @@ steady_what (whats.Granted m) t w task may s =
     steady_at (w.mutex m) w (λ m. locked (with_wait w.state t None) t m) s
     (λ m.
     let free = like_wait w.state t None s.state in
-    like_then w.state (with_wait w.state t None) _ free (like_locked (with_wait w.state t None) t m task free.whole))
-steady_what (whats.Took m) t w task may s = steady_at (w.mutex m) w (λ m. locked w.state t m) s (λ m. like_locked w.state t m task s.state)
+    like_then w.state (with_wait w.state t None) _ free
+    (like_locked (with_wait w.state t None) t m task free.whole))
+steady_what (whats.Took m) t w task may s =
+    steady_at (w.mutex m) w (λ m. locked w.state t m) s (λ m. like_locked w.state t m task s.state)
 steady_what (whats.Waits m) t w task may s =
-    steady_at (w.mutex m) w (λ m. with_wait w.state t (Some (wait_for m))) s (λ m. like_wait w.state t _ s.state)
+    steady_at (w.mutex m) w
+    (λ m. with_wait w.state t (Some (wait_for m))) s (λ m. like_wait w.state t _ s.state)
 steady_what (whats.GaveUp m) t w task may s = steady_state w _ s (like_wait w.state t None s.state)
-steady_what (whats.Released m) t w task may s = steady_at (w.mutex m) w (λ m. unlocked w.state m) s (λ m. like_unlocked w.state m s.state)
-steady_what (whats.Priority level) t w task may s = steady_state w _ s (like_base w.state t level s.state)
+steady_what (whats.Released m) t w task may s =
+    steady_at (w.mutex m) w (λ m. unlocked w.state m) s (λ m. like_unlocked w.state m s.state)
+steady_what (whats.Priority level) t w task may s =
+    steady_state w _ s (like_base w.state t level s.state)
 steady_what (whats.Ceiling m level) t w task may s =
-    steady_at (w.mutex m) w (λ m. with_ceiling w.state m level) s (λ m. like_ceiling w.state m level s.state)
+    steady_at (w.mutex m) w
+    (λ m. with_ceiling w.state m level) s (λ m. like_ceiling w.state m level s.state)
 steady_what (whats.Blocks x) t w task may s = s
 steady_what (whats.Resumes x ended) t w task may s = s
-steady_what (whats.Runs level) t w task may s = steady_kernel w _ s (steady_runs w.kernel (length w.state.base) t level s.kernel)
+steady_what (whats.Runs level) t w task may s =
+    steady_kernel w _ s (steady_runs w.kernel (length w.state.base) t level s.kernel)
 steady_what (whats.On cpu) t w task may s =
     steady_kernel w _ s
     (steady_on w.kernel (length w.state.base) t cpu task (may cpu refl) s.kernel)
-steady_what whats.OffReady t w task may s = steady_kernel w _ s (steady_off w.kernel (length w.state.base) t _ s.kernel)
-steady_what whats.OffAsleep t w task may s = steady_kernel w _ s (steady_off w.kernel (length w.state.base) t _ s.kernel)
+steady_what whats.OffReady t w task may s =
+    steady_kernel w _ s (steady_off w.kernel (length w.state.base) t _ s.kernel)
+steady_what whats.OffAsleep t w task may s =
+    steady_kernel w _ s (steady_off w.kernel (length w.state.base) t _ s.kernel)
 
 -- ---- lines
 
@@ -155,7 +186,11 @@ none_from : {A : Type 0} (o : Option A) → is_none o ≡ true → o ≡ None
 none_from None e = refl
 none_from (Some x) e = cc
 
-steady_fact : (w : World) (time t : ℕ) (what : What) → may_be_next w (lines.Fact time t what) ≡ true → IsSteady w → IsSteady (after w (lines.Fact time t what))
+steady_fact :
+    (w : World) (time t : ℕ) (what : What)
+    → may_be_next w (lines.Fact time t what) ≡ true
+    → IsSteady w
+    → IsSteady (after w (lines.Fact time t what))
 steady_fact w time t what may s = go (w.thread t) refl may
   where
     go :
@@ -166,15 +201,23 @@ steady_fact w time t what may s = go (w.thread t) refl may
     go None is may = s
     go (Some p) is may =
         steady_what what p (at_time time w) (s.tasks t p is)
-        (λ cpu on. (and_parts (not (is_on w.kernel p)) (is_none (w.kernel.on cpu)) (subst (λ what. may_happen w p what ≡ true) on may)).0) s
+        (λ cpu on. (and_parts (not (is_on w.kernel p))
+        (is_none (w.kernel.on cpu)) (subst (λ what. may_happen w p what ≡ true) on may)).0) s
 
-pub steady_after : (w : World) (line : Line) → may_be_next w line ≡ true → IsSteady w → IsSteady (after w line)
-steady_after w (lines.Thread t level) may s = steady_thread w t level (none_from (w.thread t) (and_parts (is_none (w.thread t)) _ may).0) s
-steady_after w (lines.Mutex m is_recursive protocol) may s = steady_mutex w m is_recursive protocol s
+pub steady_after :
+    (w : World) (line : Line)
+    → may_be_next w line ≡ true
+    → IsSteady w
+    → IsSteady (after w line)
+steady_after w (lines.Thread t level) may s =
+    steady_thread w t level (none_from (w.thread t) (and_parts (is_none (w.thread t)) _ may).0) s
+steady_after w (lines.Mutex m is_recursive protocol) may s =
+    steady_mutex w m is_recursive protocol s
 steady_after w (lines.Object x) may s = s
 steady_after w lines.Unseen may s = s
 steady_after w (lines.Fact time t what) may s = steady_fact w time t what may s
-steady_after w (lines.Lost time) may s = steady_kernel w _ s (steady_forgotten w.kernel (length w.state.base) s.kernel)
+steady_after w (lines.Lost time) may s =
+    steady_kernel w _ s (steady_forgotten w.kernel (length w.state.base) s.kernel)
 steady_after w (lines.End time) may s = s
 
 no_owner : (m : ℕ) → owner_of no_world.state m ≡ None
@@ -201,18 +244,29 @@ steady_first = record {
 -- ---- texts
 
 -- a line that is read may follow
-line_follows : (w : World) (bytes : List ℕ) (line : Line) → line_after w bytes ≡ Some line → may_be_next w line ≡ true
+line_follows :
+    (w : World) (bytes : List ℕ) (line : Line)
+    → line_after w bytes ≡ Some line
+    → may_be_next w line ≡ true
 line_follows w bytes line e = go (line_of bytes) e
   where
-    go : (o : Option Line) → given o (λ line. if may_follow w line then Some line else None) ≡ Some line → may_be_next w line ≡ true
+    go :
+        (o : Option Line)
+        → given o (λ line. if may_follow w line then Some line else None) ≡ Some line
+        → may_be_next w line ≡ true
     go None e = cc
     go (Some other) e = test (may_follow w other) refl e
       where
-        test : (b : Bool) → may_follow w other ≡ b → cond b (Some other) None ≡ Some line → may_be_next w line ≡ true
+        test :
+            (b : Bool)
+            → may_follow w other ≡ b
+            → cond b (Some other) None ≡ Some line
+            → may_be_next w line ≡ true
         test false is e = cc
         test true is e =
             let same : other ≡ line = same_Some other line e in
-            subst (λ line. may_be_next w line ≡ true) same (and_parts (not w.has_ended) (may_be_next w other) is).1
+            subst (λ line. may_be_next w line ≡ true) same
+            (and_parts (not w.has_ended) (may_be_next w other) is).1
 
 pub steady_lines :
     (bytes : List (List ℕ)) (w : World) (ls : List Line)
@@ -228,23 +282,30 @@ steady_lines (first ∷ bytes) w ls e s = go (steady_lines bytes) (line_after w 
         → option_map (λ more. line ∷ more) o ≡ Some ls
         → IsSteady (fold after w ls)
     more line None rest e = cc
-    more line (Some ls') rest e = subst (λ ls. IsSteady (fold after w ls)) (same_Some (line ∷ ls') ls e) (rest ls' refl)
+    more line (Some ls') rest e =
+        subst (λ ls. IsSteady (fold after w ls)) (same_Some (line ∷ ls') ls e) (rest ls' refl)
 
     go :
-        ((w : World) (ls : List Line) → lines_after w bytes ≡ Some ls → IsSteady w → IsSteady (fold after w ls))
+        ((w : World) (ls : List Line)
+        → lines_after w bytes ≡ Some ls → IsSteady w → IsSteady (fold after w ls))
         → (o : Option Line)
         → line_after w first ≡ o
-        → given o (λ line. option_map (λ more. line ∷ more) (lines_after (after w line) bytes)) ≡ Some ls
+        → given o (λ line. option_map (λ more. line ∷ more) (lines_after (after w line) bytes))
+        ≡ Some ls
         → IsSteady (fold after w ls)
     go rest None is e = cc
     go rest (Some line) is e =
         more line (lines_after (after w line) bytes)
-        (λ ls' e'. rest (after w line) ls' e' (steady_after w line (line_follows w first line is) s)) e
+        (λ ls' e'.
+        rest (after w line) ls' e' (steady_after w line (line_follows w first line is) s)) e
 
 pub steady_law : SteadyLaw
 steady_law [] ls e = cc
 steady_law (first ∷ bytes) ls e = go (is_header first) e
   where
-    go : (b : Bool) → cond b (lines_after no_world bytes) None ≡ Some ls → IsSteady (fold after no_world ls)
+    go :
+        (b : Bool)
+        → cond b (lines_after no_world bytes) None ≡ Some ls
+        → IsSteady (fold after no_world ls)
     go false e = cc
     go true e = steady_lines bytes no_world ls e steady_first

@@ -1,9 +1,10 @@
 -- What holds after a line: 'Which line may follow' of docs/FACTS.md, its last column.
-use Rattle.std.specs.Prelude.{ℕ, ◌+◌, ◌-◌, ◌==◌, ◌++◌, max, Bool, true, ◌&&◌, List, [], ◌∷◌, length, replicate}
-use Rattle.std.specs.Prelude.{Option, Some, None, is_some, nat_lt, if◌then◌else◌}
+use Rattle.std.specs.Prelude.{ℕ, ◌+◌, ◌-◌, ◌==◌, ◌++◌, max, Bool, true, ◌&&◌, [], ◌∷◌, length}
+use Rattle.std.specs.Prelude.{replicate, Option, Some, None, is_some, nat_lt, if◌then◌else◌}
 use Rattle.std.specs.Option.{option_map_or}
 use Rattle.pim_base.specs.Lists.{put, holds}
-use Rattle.pim_base.specs.State.{State, owner_of, count_of, with_owner, with_count, with_wait, with_base, with_ceiling}
+use Rattle.pim_base.specs.State.{State, owner_of, count_of, with_owner, with_count, with_wait}
+use Rattle.pim_base.specs.State.{with_base, with_ceiling}
 use Rattle.pim_fact_lines.specs.declared.line.Protocol.{Protocol}
 use Rattle.pim_fact_lines.specs.declared.line.What.{What}
 use Rattle.pim_fact_lines.specs.declared.line.What.TheVariants as whats
@@ -27,7 +28,8 @@ at place change w = option_map_or (λ n. change n w) place w
 
 -- a thread of which nothing is known
 abbrev pub more_kernel : Kernel → Kernel
-more_kernel k = record k { runs = k.runs ++ None ∷ []; cpu = k.cpu ++ None ∷ []; off = k.off ++ None ∷ [] }
+more_kernel k =
+    record k { runs = k.runs ++ None ∷ []; cpu = k.cpu ++ None ∷ []; off = k.off ++ None ∷ [] }
 
 -- the thread that was added last has this number
 abbrev pub with_thread_number : ℕ → World → World
@@ -48,12 +50,16 @@ after_thread t level w = with_thread_number t (with_new_thread level w)
 -- the mutex that was added last has this number
 abbrev pub with_mutex_number : ℕ → World → World
 with_mutex_number m w =
-    record w { mutex = set m (Some (length w.state.protocol)) w.mutex; mutexes = w.mutexes ++ m ∷ [] }
+    record w
+    { mutex = set m (Some (length w.state.protocol)) w.mutex; mutexes = w.mutexes ++ m ∷ [] }
 
 -- a free mutex with this protocol
 abbrev pub with_new_mutex : Bool → Protocol → World → World
 with_new_mutex is_recursive protocol w =
-    record w { state = with_mutex w.state (protocol_in_model protocol); recursive = w.recursive ++ is_recursive ∷ [] }
+    record w {
+      state = with_mutex w.state (protocol_in_model protocol);
+      recursive = w.recursive ++ is_recursive ∷ [];
+    }
 
 abbrev pub after_mutex : ℕ → Bool → Protocol → World → World
 after_mutex m is_recursive protocol w = with_mutex_number m (with_new_mutex is_recursive protocol w)
@@ -65,11 +71,13 @@ with_object x w = record w { object = set x true w.object }
 
 -- t has locked m, once more if it owns it
 abbrev pub locked : State → ℕ → ℕ → State
-locked S t m = if is_some (owner_of S m) then with_count S m (count_of S m + 1) else with_owner S m (Some t)
+locked S t m =
+    if is_some (owner_of S m) then with_count S m (count_of S m + 1) else with_owner S m (Some t)
 
 -- its owner has unlocked m once: it is free after as many times as it was locked
 abbrev pub unlocked : State → ℕ → State
-unlocked S m = if nat_lt 1 (count_of S m) then with_count S m (count_of S m - 1) else with_owner S m None
+unlocked S m =
+    if nat_lt 1 (count_of S m) then with_count S m (count_of S m - 1) else with_owner S m None
 
 -- ---- the kernel
 
@@ -79,7 +87,8 @@ without k t cpu = if holds (last_cpu k t) cpu && holds (k.on cpu) t then None el
 
 -- t is on this CPU from now on
 abbrev pub put_on : Kernel → ℕ → ℕ → Kernel
-put_on k t cpu = record k { cpu = put k.cpu t (Some cpu); off = put k.off t None; on = set cpu (Some t) k.on }
+put_on k t cpu =
+    record k { cpu = put k.cpu t (Some cpu); off = put k.off t None; on = set cpu (Some t) k.on }
 
 -- t is off its CPU from now on, ready or asleep
 abbrev pub put_off : Kernel → ℕ → Off → Kernel
@@ -110,11 +119,13 @@ abbrev pub after_what : What → ℕ → World → World
 after_what (whats.Granted m) t w =
     at (w.mutex m) (λ m w. with_state w (locked (with_wait w.state t None) t m)) w
 after_what (whats.Took m) t w = at (w.mutex m) (λ m w. with_state w (locked w.state t m)) w
-after_what (whats.Waits m) t w = at (w.mutex m) (λ m w. with_state w (with_wait w.state t (Some (wait_for m)))) w
+after_what (whats.Waits m) t w =
+    at (w.mutex m) (λ m w. with_state w (with_wait w.state t (Some (wait_for m)))) w
 after_what (whats.GaveUp m) t w = with_state w (with_wait w.state t None)
 after_what (whats.Released m) t w = at (w.mutex m) (λ m w. with_state w (unlocked w.state m)) w
 after_what (whats.Priority level) t w = with_state w (with_base w.state t level)
-after_what (whats.Ceiling m level) t w = at (w.mutex m) (λ m w. with_state w (with_ceiling w.state m level)) w
+after_what (whats.Ceiling m level) t w =
+    at (w.mutex m) (λ m w. with_state w (with_ceiling w.state m level)) w
 after_what (whats.Blocks x) t w = record w { blocked = put w.blocked t (Some x) }
 after_what (whats.Resumes x ended) t w = record w { blocked = put w.blocked t None }
 after_what (whats.Runs level) t w = with_kernel w (with_runs w.kernel t level)

@@ -1,5 +1,6 @@
 -- Which line may follow: 'Which line may follow' of docs/FACTS.md.
-use Rattle.std.specs.Prelude.{ℕ, ◌==◌, Bool, true, false, not, ◌&&◌, ◌||◌, length, Option, is_none, is_some, nat_lt}
+use Rattle.std.specs.Prelude.{ℕ, ◌==◌, Bool, true, false, not, ◌&&◌, ◌||◌, length, Option, is_none}
+use Rattle.std.specs.Prelude.{is_some, nat_lt}
 use Rattle.std.specs.Option.{option_map_or}
 use Rattle.pim_base.specs.State.{owner_of, protocol_of}
 use Rattle.pim_base.specs.Priorities.{ceiling}

@@ -10,11 +10,15 @@ use Rattle.pim_world.specs.Known.{AreTasks, AreMutexes}
 pub record IsSteadyKernel (k : Kernel) (threads : ℕ) : Type 0 where
   pub cpus : length k.cpu ≡ threads
   pub offs : length k.off ≡ threads
-  pub on : (cpu t : ℕ) → k.on cpu ≡ Some t → (last_cpu k t ≡ Some cpu) × (unwrap_or (nth k.off t) None ≡ None)
+  pub on :
+      (cpu t : ℕ)
+      → k.on cpu ≡ Some t
+      → (last_cpu k t ≡ Some cpu) × (unwrap_or (nth k.off t) None ≡ None)
 
--- The lists of the state fit together, and owners are known. What is declared has a place in the state, and the thread at
--- a place is the one of its number.
-pub record AreSteady (S : State) (thread mutex : ℕ → Option ℕ) (threads : List ℕ) (k : Kernel) : Type 0 where
+-- The lists of the state fit together, and owners are known. What is declared has a place in the
+-- state, and the thread at a place is the one of its number.
+pub record AreSteady
+    (S : State) (thread mutex : ℕ → Option ℕ) (threads : List ℕ) (k : Kernel) : Type 0 where
   pub state : IsWhole S
   pub tasks : AreTasks S thread
   pub mutexes : AreMutexes S mutex

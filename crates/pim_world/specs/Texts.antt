@@ -1,5 +1,6 @@
 -- Which lines are a text of facts, what it says, and which line is the first invalid one.
-use Rattle.std.specs.Prelude.{◌≡◌, ℕ, ◌-◌, ◌<◌, ◌⊎◌, List, [], ◌∷◌, take, IsSome, Option, Some, None, if◌then◌else◌}
+use Rattle.std.specs.Prelude.{◌≡◌, ℕ, ◌-◌, ◌<◌, ◌⊎◌, List, [], ◌∷◌, take, IsSome, Option, Some}
+use Rattle.std.specs.Prelude.{None, if◌then◌else◌}
 use Rattle.std.specs.Option.{option_map}
 use Rattle.pim_fact_lines.specs.declared.line.Line.{Line}
 use Rattle.pim_fact_lines.specs.Lines.{given, line_of}
@@ -22,7 +23,8 @@ go_on w bytes = option_map (after w) (line_after w bytes)
 abbrev pub lines_after : World → List (List ℕ) → Option (List Line)
 lines_after w [] = Some []
 lines_after w (bytes ∷ ls) =
-    given (line_after w bytes) (λ line. option_map (λ more. line ∷ more) (lines_after (after w line) ls))
+    given (line_after w bytes)
+    (λ line. option_map (λ more. line ∷ more) (lines_after (after w line) ls))
 
 -- the lines after the first, which is the version, if these are the lines of a text
 abbrev pub lines_in : List (List ℕ) → Option (List Line)

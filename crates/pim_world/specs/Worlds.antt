@@ -1,21 +1,22 @@
 -- What the lines so far say of threads, mutexes, objects and CPUs.
-use Rattle.std.specs.Prelude.{ℕ, ◌==◌, Bool, false, List, [], Option, None, is_none, unwrap_or, ◌&&◌}
+use Rattle.std.specs.Prelude.{ℕ, ◌==◌, Bool, false, List, [], Option, None, is_none, unwrap_or}
+use Rattle.std.specs.Prelude.{◌&&◌}
 use Rattle.std.specs.Option.{option_and_then, option_map_or}
 use Rattle.pim_base.specs.Lists.{nth, holds}
 use Rattle.pim_base.specs.State.{State, start, owner_of, wait_of}
 use Rattle.pim_base.specs.declared.steps.Wait.{Wait}
 use Rattle.pim_world.specs.declared.kernel.Off.{Off}
 
--- What the kernel did, as far as it is known: at which level it runs each thread, on which CPU that was last, and of a thread
--- that is off a CPU whether it could run; which thread is on each CPU.
+-- What the kernel did, as far as it is known: at which level it runs each thread, on which CPU that
+-- was last, and of a thread that is off a CPU whether it could run; which thread is on each CPU.
 pub record Kernel : Type 0 where
   pub runs : List (Option ℕ)
   pub cpu : List (Option ℕ)
   pub off : List (Option Off)
   pub on : ℕ → Option ℕ
 
--- `thread` and `mutex` are the places of what is declared in the lists of the state, by its number; `threads` and `mutexes`
--- are the numbers in these lists. `clock` is the greatest time so far.
+-- `thread` and `mutex` are the places of what is declared in the lists of the state, by its number;
+-- `threads` and `mutexes` are the numbers in these lists. `clock` is the greatest time so far.
 pub record World : Type 0 where
   pub thread : ℕ → Option ℕ
   pub mutex : ℕ → Option ℕ

@@ -4,7 +4,9 @@ ghost use Rattle.std.specs.Prelude.{◌≡◌, ◌≤◌, false, [], length, IfO
 ghost use Rattle.pim_base.specs.State.{IsTask};
 ghost use Rattle.pim_waits.specs.Touched.{Touches};
 ghost use Rattle.pim_world.specs.Touching.{declares};
-ghost use Rattle.pim_world.specs.After.{after, after_thread, after_mutex, with_thread_number, with_mutex_number, with_object, after_what, at_time, locked, unlocked, with_state};
+ghost use Rattle.pim_world.specs.After.{after, after_thread, after_mutex, with_thread_number};
+ghost use Rattle.pim_world.specs.After.{with_mutex_number, with_object, after_what, at_time};
+ghost use Rattle.pim_world.specs.After.{locked, unlocked, with_state};
 ghost use Rattle.pim_fact_lines.specs.declared.line.Line.TheVariants as lines;
 ghost use Rattle.pim_world.specs.Held.{world_of, touched_of};
 
@@ -24,7 +26,8 @@ impl World {
     pub fn go(&mut self, alloc: Global, line: &Line) -> Result<(), AllocError>
         ensures world { IfOk result (λ _. world_of self.new ≡ after (world_of self.old) line.now) }
         ensures touched { IfOk result (λ _. declares line.now ≡ false
-            → Touches (world_of self.old).state (world_of self.new).state [] (touched_of self.new)) }
+            → Touches
+            (world_of self.old).state (world_of self.new).state [] (touched_of self.new)) }
     {
         self.touched.clear();
         match line {
@@ -50,8 +53,10 @@ impl World {
 
     #[tactic(auto, using(crate::proofs::Touching::touches_none))]
     fn go_by_fact(&mut self, time: u64, thread: ThreadNo, what: &What) -> Result<(), AllocError>
-        ensures world { IfOk result (λ _. world_of self.new ≡ after (world_of self.old) (lines.Fact time thread what.now)) }
-        ensures touched { IfOk result (λ _. Touches (world_of self.old).state (world_of self.new).state (touched_of self.old) (touched_of self.new)) }
+        ensures world { IfOk result
+            (λ _. world_of self.new ≡ after (world_of self.old) (lines.Fact time thread what.now)) }
+        ensures touched { IfOk result (λ _. Touches (world_of self.old).state
+            (world_of self.new).state (touched_of self.old) (touched_of self.new)) }
     {
         let place = self.thread(thread);
         self.pass(time);
@@ -89,7 +94,8 @@ impl World {
     }
 
     fn add_thread(&mut self, number: ThreadNo, level: Level) -> Result<(), AllocError>
-        ensures { IfOk result (λ _. world_of self.new ≡ after_thread number level (world_of self.old)) }
+        ensures { IfOk result
+            (λ _. world_of self.new ≡ after_thread number level (world_of self.old)) }
     {
         self.waits.add_thread(level)?;
         if self.blocked.push(None).is_err() {
@@ -103,7 +109,8 @@ impl World {
     /// Gives the thread that was added last its number.
     fn number_thread(&mut self, number: ThreadNo) -> Result<(), AllocError>
         requires { 1 ≤ length (world_of self.old).state.base }
-        ensures { IfOk result (λ _. world_of self.new ≡ with_thread_number number (world_of self.old)) }
+        ensures { IfOk result
+            (λ _. world_of self.new ≡ with_thread_number number (world_of self.old)) }
     {
         let place = ThreadPlace(self.waits.threads());
         if self.thread_numbers.push(number).is_err() {
@@ -121,7 +128,8 @@ impl World {
         is_recursive: bool,
         protocol: Protocol,
     ) -> Result<(), AllocError>
-        ensures { IfOk result (λ _. world_of self.new ≡ after_mutex number is_recursive protocol (world_of self.old)) }
+        ensures { IfOk result (λ _.
+            world_of self.new ≡ after_mutex number is_recursive protocol (world_of self.old)) }
     {
         self.waits.add_mutex(protocol)?;
         if self.recursive.push(is_recursive).is_err() {
@@ -134,7 +142,8 @@ impl World {
     /// Gives the mutex that was added last its number.
     fn number_mutex(&mut self, number: MutexNo) -> Result<(), AllocError>
         requires { 1 ≤ length (world_of self.old).state.protocol }
-        ensures { IfOk result (λ _. world_of self.new ≡ with_mutex_number number (world_of self.old)) }
+        ensures { IfOk result
+            (λ _. world_of self.new ≡ with_mutex_number number (world_of self.old)) }
     {
         let place = MutexPlace(self.waits.mutexes());
         if self.mutex_numbers.push(number).is_err() {
@@ -147,7 +156,8 @@ impl World {
     }
 
     fn add_object(&mut self, number: ObjectNo) -> Result<(), AllocError>
-        ensures world { IfOk result (λ _. world_of self.new ≡ with_object number (world_of self.old)) }
+        ensures world { IfOk result
+            (λ _. world_of self.new ≡ with_object number (world_of self.old)) }
         ensures touched { touched_of self.new ≡ touched_of self.old }
     {
         match self.objects.insert(number.0, ()) {
@@ -160,8 +170,10 @@ impl World {
     #[tactic(auto, using(crate::proofs::Touching::touches_none))]
     fn happen(&mut self, thread: ThreadPlace, what: &What) -> Result<(), AllocError>
         requires { IsTask (world_of self.old).state thread }
-        ensures world { IfOk result (λ _. world_of self.new ≡ after_what what.now thread (world_of self.old)) }
-        ensures touched { IfOk result (λ _. Touches (world_of self.old).state (world_of self.new).state (touched_of self.old) (touched_of self.new)) }
+        ensures world { IfOk result
+            (λ _. world_of self.new ≡ after_what what.now thread (world_of self.old)) }
+        ensures touched { IfOk result (λ _. Touches (world_of self.old).state
+            (world_of self.new).state (touched_of self.old) (touched_of self.new)) }
     {
         match what {
             What::Granted(number) => {
@@ -212,7 +224,8 @@ impl World {
         requires { IsTask (world_of self.old).state thread }
         ensures world { IfOk result (λ _. let w = world_of self.old in
             world_of self.new ≡ with_state w (locked w.state thread mutex)) }
-        ensures touched { IfOk result (λ _. Touches (world_of self.old).state (world_of self.new).state (touched_of self.old) (touched_of self.new)) }
+        ensures touched { IfOk result (λ _. Touches (world_of self.old).state
+            (world_of self.new).state (touched_of self.old) (touched_of self.new)) }
     {
         if self.waits.owner(mutex).is_none() {
             self.waits
@@ -231,7 +244,8 @@ impl World {
     fn unlock(&mut self, mutex: MutexPlace) -> Result<(), AllocError>
         ensures world { IfOk result (λ _. let w = world_of self.old in
             world_of self.new ≡ with_state w (unlocked w.state mutex)) }
-        ensures touched { IfOk result (λ _. Touches (world_of self.old).state (world_of self.new).state (touched_of self.old) (touched_of self.new)) }
+        ensures touched { IfOk result (λ _. Touches (world_of self.old).state
+            (world_of self.new).state (touched_of self.old) (touched_of self.new)) }
     {
         let count = self.waits.count(mutex);
         if count > 1 {

@@ -49,7 +49,8 @@ impl KernelEvents {
 
     /// Returns `false` only if the level at which the kernel runs a thread is known of none.
     pub fn is_run(&self) -> bool
-        ensures { result ≡ false → (t : ℕ) → unwrap_or (nth (kernel_of self.now).runs t) None ≡ None }
+        ensures { result ≡ false
+            → (t : ℕ) → unwrap_or (nth (kernel_of self.now).runs t) None ≡ None }
     {
         self.is_run
     }

@@ -7,7 +7,8 @@ ghost use Rattle.pim_waits.specs.Model.{wait_for};
 ghost use Rattle.pim_fact_lines.specs.declared.line.Line.TheVariants as lines;
 ghost use Rattle.pim_fact_lines.specs.declared.line.What.TheVariants as whats;
 ghost use Rattle.pim_world.specs.Worlds.{no_world, blocked_at, is_idle, awaits, is_recursive};
-ghost use Rattle.pim_world.specs.Following.{may_follow, may_be_next, may_happen, may_lock, may_end, has_ceiling};
+ghost use Rattle.pim_world.specs.Following.{may_follow, may_be_next, may_happen, may_lock, may_end};
+ghost use Rattle.pim_world.specs.Following.{has_ceiling};
 ghost use Rattle.pim_world.specs.Held.{world_of};
 
 use crate::kernel::KernelEvents;
@@ -106,7 +107,8 @@ impl World {
 
     /// Returns why a thread may not be declared.
     fn refusal_of_thread(&self, number: ThreadNo) -> Option<Refusal>
-        ensures { (level : ℕ) → is_none result ≡ may_be_next (world_of self.now) (lines.Thread number level) }
+        ensures { (level : ℕ)
+            → is_none result ≡ may_be_next (world_of self.now) (lines.Thread number level) }
     {
         if self.thread(number).is_some() {
             Some(Refusal::ThreadAgain)
@@ -245,7 +247,8 @@ impl World {
     }
 
     fn refusal_of_ceiling(&self, mutex: MutexNo) -> Option<Refusal>
-        ensures { (t level : ℕ) → is_none result ≡ may_happen (world_of self.now) t (whats.Ceiling mutex level) }
+        ensures { (t level : ℕ)
+            → is_none result ≡ may_happen (world_of self.now) t (whats.Ceiling mutex level) }
     {
         let Some(mutex) = self.mutex(mutex) else {
             return Some(Refusal::NoMutex);
@@ -272,7 +275,8 @@ impl World {
         object: ObjectNo,
         ended: Ended,
     ) -> Option<Refusal>
-        ensures { is_none result ≡ may_happen (world_of self.now) thread (whats.Resumes object ended) }
+        ensures { is_none result
+            ≡ may_happen (world_of self.now) thread (whats.Resumes object ended) }
     {
         if !self.has_object(object) {
             return Some(Refusal::NoObject);

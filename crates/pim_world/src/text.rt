@@ -16,8 +16,8 @@ use std::alloc::{AllocError, Global};
 ///
 /// # Errors
 ///
-/// Returns `Line` with the number of the first invalid line, and why it is invalid; `Memory` if out of memory. Without
-/// a byte it is line 1.
+/// Returns `Line` with the number of the first invalid line, and why it is invalid; `Memory` if out
+/// of memory. Without a byte it is line 1.
 pub fn check_text(alloc: Global, bytes: &[u8]) -> Result<(), FactsFault>
     ensures { MatchResult result
         (λ _. IsText (lines_of bytes.now))

@@ -5,7 +5,8 @@ use Rattle.pim_world.proofs.text.check_text.Goals as goal
 pub loop-rest-init : goal.loop-rest-init
 loop-rest-init c = record {
   so_far =
-      begins _ _ _ _ c.next_line.ensures.lines (sym c.is_header.ensures ∙ c.if-not-is_header.false) c.new-world.ensures;
+      begins _ _ _ _ c.next_line.ensures.lines
+      (sym c.is_header.ensures ∙ c.if-not-is_header.false) c.new-world.ensures;
   few = omega (arith, c.next_line.ensures.shorter);
 }
 

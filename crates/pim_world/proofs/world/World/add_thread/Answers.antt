@@ -6,6 +6,10 @@ pub returns : goal.returns
 returns c =
     c.in_ok-number_thread.ensures
     ∙ ap (with_thread_number c.args.number)
-    (simp
-    (c.in_ok-add_thread.ensures.ok, c.in_ok-add_thread-2.ensures, c.push.ensures.items, c.if-is_err.ensures.negation)
+    (simp (
+      c.in_ok-add_thread.ensures.ok,
+      c.in_ok-add_thread-2.ensures,
+      c.push.ensures.items,
+      c.if-is_err.ensures.negation,
+    )
     refl)

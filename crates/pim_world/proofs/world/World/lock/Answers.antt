@@ -1,4 +1,4 @@
-use Rattle.std.proofs.Common.{sym, subst, ◌+◌}
+use Rattle.std.proofs.Common.{sym, subst}
 use Rattle.pim_base.specs.State.{State}
 use Rattle.pim_waits.specs.Touched.{Touches}
 use Rattle.pim_world.specs.Held.{touched_of}
