@@ -13,8 +13,9 @@ RELEASED, PRIORITY, CEILING = "released", "priority", "ceiling"
 # owned the mutex then, or None if no record says it. `time` is in nanoseconds, `record` the number
 # of the record that says it, or behind which it was added.
 Fact = namedtuple("Fact", "time thread what mutex level owner record", defaults=(None,) * 4)
-# A mutex of a log. `process` is None if it is shared, `init` the number of its INIT, or None.
-Mutex = namedtuple("Mutex", "process address init")
+# A mutex of a log. `process` is None if it is shared, `init` the number of its INIT, or None, and
+# `first` that of its first record.
+Mutex = namedtuple("Mutex", "process address init first")
 
 POLICY, FIFO, RR, DEADLINE, KEPT = 15, 1, 2, 6, 15
 OTHER_LEVEL, DEADLINE_LEVEL = 0, 100
@@ -47,6 +48,15 @@ def ceiling_of(record):
     return detail >> 8 if detail & reader.PROTOCOL == PROTECT else None
 
 
+def kind_of(detail):
+    """Returns what of a detail is the same as long as a mutex is there, or None where it isn't known.
+    Only the INIT of a robust mutex says whether it is shared."""
+    if not detail or detail & reader.PROTOCOL == reader.PROTOCOL:
+        return None
+    is_shared = not detail & reader.ROBUST and detail & reader.SHARED
+    return detail & (reader.TYPE | reader.ROBUST | reader.PROTOCOL), is_shared
+
+
 class Mutexes:
     """Which mutex each record is of, and of which kind each is."""
 
@@ -54,21 +64,42 @@ class Mutexes:
         self.own, self.shared = {}, {}  # the mutex at a process and address, and at an address
         self.of = {}                    # by a record's number
         self.details = {}               # by mutex the first detail that is known
+        last, self.failed = {}, set()   # the numbers of DESTROYs that failed
+        for record in records:
+            before = last.get(record.chunk.thread)
+            is_answer = before is not None and before.event == reader.DESTROY
+            if is_answer and record.event == reader.DESTROY_FAILED and before.object == record.object:
+                self.failed.add(before.number)
+            last[record.chunk.thread] = record
         for record in records:
             if record.event in reader.OF_MUTEX:
                 mutex = self.of[record.number] = self.named(record)
                 if detail_of(record):
                     self.details.setdefault(mutex, record.detail)
+                if record.event == reader.DESTROY and record.number not in self.failed:
+                    self.forget(record)
+
+    def forget(self, record):
+        """The mutex of a record is destroyed: the next record of the address is of another."""
+        if self.own.pop((record.chunk.process, record.object), None) is None:
+            self.shared.pop(record.object, None)
+
+    def is_another(self, mutex, record):
+        """Returns whether a record is of another mutex than the one that is at its address."""
+        if record.event in (reader.INIT, reader.CEILING):
+            return record.event == reader.INIT
+        was, now = (kind_of(detail) for detail in (self.details.get(mutex, 0), detail_of(record)))
+        return None not in (was, now) and was != now
 
     def named(self, record):
         """Returns the mutex of the next record."""
         process, address = record.chunk.process, record.object
         there = self.own.get((process, address)) or self.shared.get(address)
-        if there and record.event != reader.INIT:
+        if there and not self.is_another(there, record):
             return there
         is_shared = detail_of(record) & reader.SHARED
         init = record.number if record.event == reader.INIT else None
-        mutex = Mutex(None if is_shared else process, address, init)
+        mutex = Mutex(None if is_shared else process, address, init, record.number)
         if is_shared:
             self.own.pop((process, address), None)
             self.shared[address] = mutex

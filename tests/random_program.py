@@ -260,14 +260,25 @@ class Program:
         yield
 
     def begin_mutex(self, thread, mutex):
-        """A mutex that nobody uses is destroyed, and another is initialised there."""
+        """A mutex that nobody uses is destroyed or forgotten, and another is there, by an INIT or not. One that is
+        used isn't destroyed."""
         if mutex.owner or mutex.calls or self.chance(0.5):
+            yield from self.destroy_in_vain(thread, mutex)
+            return
+        if self.chance(0.7):
+            self.put(thread, reader.DESTROY, mutex.address)
+        mutex.begin_again(self.choose)
+        if self.chance(0.7):
+            self.put(thread, reader.INIT, mutex.address, detail=mutex.detail(is_init=True))
+            self.put(thread, reader.PLACE, next(self.places))
+        yield
+
+    def destroy_in_vain(self, thread, mutex):
+        if mutex.calls or self.chance(0.5):
             return
         self.put(thread, reader.DESTROY, mutex.address)
-        mutex.begin_again(self.choose)
-        self.put(thread, reader.INIT, mutex.address, detail=mutex.detail(is_init=True))
-        self.put(thread, reader.PLACE, next(self.places))
-        yield
+        yield from self.late()
+        self.put(thread, reader.DESTROY_FAILED, mutex.address, how=BUSY)
 
     def set_level(self, thread, _mutex):
         """The priority of a thread is set, by its pthread_t or its task."""

@@ -60,6 +60,8 @@ struct log {
     struct module *modules;
     uint32_t thread_count, mutex_count, name_count, module_count;
     bool has_waits;         /* for what isn't a mutex */
+    bool has_failed;        /* it has a DESTROY_FAILED */
+    struct table failed;    /* the slots of the DESTROYs that failed */
     struct table by_number; /* the threads */
     struct table parents;   /* by process the one that forked it */
     uint64_t ended;         /* the latest time of a record */
