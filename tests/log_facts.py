@@ -206,41 +206,27 @@ class World:
 
     def __init__(self, log):
         self.log, self.mutexes = log, log.mutexes
-        self.owner, self.depth = {}, {}              # by mutex
-        self.last_owner = {}                         # by mutex
-        self.ceiling = log.mutexes.first_ceilings()  # by mutex
-        self.awaits = {}                             # by thread a mutex of another
-        self.own = {}                                # by thread a mutex of its own
-        self.was_above = {}                          # by thread `is_above` as it began to wait
-        self.level = dict(log.first_level)           # by thread
-        self.selves, self.tasks = {}, {}             # threads by process and pthread_t, by task
-        self.tally = defaultdict(int)                # by reason how many records change nothing
-        self.told_of = {}                            # by number of each other record its facts
-        self.contradictions = []                     # the numbers of records
+        self.owner, self.depth, self.last_owner = {}, {}, {}  # by mutex
+        self.ceiling = log.mutexes.first_ceilings()           # by mutex
+        self.awaits, self.own = {}, {}      # by thread a mutex of another, of its own
+        self.level = dict(log.first_level)  # by thread
+        self.selves, self.tasks = {}, {}    # threads by process and pthread_t, by task
         self.rows = {reader.THREAD: self.thread, reader.PRIORITY: self.priority,
-                     reader.CEILING: self.ceiling_changed, reader.REQUEST: self.request,
+                     reader.CEILING: self.other_ceiling, reader.REQUEST: self.request,
                      reader.GRANTED: self.granted, reader.FAILED: self.failed,
                      reader.RELEASE: self.release}
 
     def told(self, record):
-        """Returns the facts of a record, and notes whether it contradicts those before it."""
-        row, reasons = self.rows.get(record.event), sum(self.tally.values())
-        facts = row(record) if row else self.left_out("remark")
-        facts = [fact._replace(time=record.time, record=record.number) for fact in facts]
-        if sum(self.tally.values()) == reasons:
-            self.told_of[record.number] = facts
-        return facts
-
-    def left_out(self, why):
-        self.tally[why] += 1
-        return []
+        """Returns the facts of a record."""
+        row = self.rows.get(record.event)
+        facts = row(record) if row else []
+        return [fact._replace(time=record.time, record=record.number) for fact in facts]
 
     # ---- threads and priorities
 
     def thread(self, record):
         process, task, thread = record.chunk.process, record.chunk.task, record.chunk.thread
         self.selves[process, record.object] = self.tasks[task] = thread
-        self.left_out("remark")
         return self.has_level(thread, level_of(record.detail, OTHER_LEVEL))
 
     def priority(self, record):
@@ -249,11 +235,8 @@ class World:
         else:
             thread = self.tasks.get(record.value)
         if thread is None:
-            return self.left_out("unchanged")
-        level = level_of(record.detail, self.level[thread])
-        if level == self.level[thread]:
-            self.left_out("unchanged")
-        return self.has_level(thread, level)
+            return []
+        return self.has_level(thread, level_of(record.detail, self.level[thread]))
 
     def has_level(self, thread, level):
         self.level[thread] = level
@@ -275,9 +258,6 @@ class World:
         self.ceiling[mutex] = ceiling
         return [Fact(None, thread, CEILING, mutex, ceiling)]
 
-    def ceiling_changed(self, record):
-        return self.other_ceiling(record) or self.left_out("unchanged")
-
     def goes_on(self, thread, but=None):
         """A thread that does something else doesn't wait any more."""
         mutex = self.awaits.get(thread)
@@ -286,19 +266,14 @@ class World:
         del self.awaits[thread]
         return [Fact(None, thread, GAVE_UP, mutex)]
 
-    def is_above(self, thread, mutex):
-        """Returns whether a thread has a level above the ceiling of a PROTECT mutex."""
-        is_protect = self.mutexes.protocol(mutex) == "protect"
-        return is_protect and self.level.get(thread, OTHER_LEVEL) > self.ceiling[mutex]
-
     def begin_to_wait(self, thread, mutex, owner):
-        self.awaits[thread], self.was_above[thread] = mutex, self.is_above(thread, mutex)
+        self.awaits[thread] = mutex
         return [Fact(None, thread, WAITS, mutex, owner=owner)]
 
     def request(self, record):
         thread, mutex, owner = self.of(record)
         if self.awaits.get(thread) == mutex:
-            return self.left_out("again")
+            return []
         if owner == thread:
             return self.request_own(record)
         facts = self.other_ceiling(record) + self.goes_on(thread)
@@ -307,7 +282,6 @@ class World:
     def request_own(self, record):
         """A thread asks for a mutex that it owns. It waits for itself from then on, or no more if that is recursive."""
         thread, mutex, _ = self.of(record)
-        self.left_out("again")
         if self.mutexes.is_recursive(mutex):
             return self.end_own(thread)
         self.own[thread] = mutex
@@ -337,13 +311,9 @@ class World:
         facts = self.end_own(thread)
         if owner == thread:
             self.depth[mutex] += self.mutexes.is_recursive(mutex)
-            self.left_out("again")
             return facts
         facts += self.other_ceiling(record) + self.goes_on(thread, mutex)
-        has_waited = self.awaits.pop(thread, None) == mutex
-        was_above = self.was_above[thread] if has_waited else True
-        if was_above and self.is_above(thread, mutex):
-            self.contradictions.append(record.number)
+        self.awaits.pop(thread, None)
         if owner is not None:
             facts.append(self.lose(owner, mutex))
         self.owner[mutex], self.depth[mutex] = thread, 1
@@ -357,19 +327,18 @@ class World:
     def failed(self, record):
         thread, mutex, _ = self.of(record)
         if self.awaits.get(thread) != mutex:
-            self.left_out("refused")
             return self.end_own(thread)
         return self.end_own(thread) + self.goes_on(thread)
 
     def release(self, record):
         thread, mutex, owner = self.of(record)
         if owner != thread:
-            return self.left_out("not_owner")
+            return []
         if record.how & CALL == reader.CALL_CONDITION and self.log.fails(record):
-            return self.left_out("revoked")
+            return []
         self.depth[mutex] -= 1
         if self.depth[mutex]:
-            return self.left_out("again")
+            return []
         return [*self.goes_on(thread), self.lose(thread, mutex)]
 
     def added(self, thread, mutex, after):
@@ -462,19 +431,21 @@ def begin_of_wait(log, record, owned):
 
 # ---- all facts
 
-def told(log, missing, kind_of_world=World):
-    """Returns the facts of a log with these missing requests, and the world after them."""
-    world, facts = kind_of_world(log), []
+def told(log, missing):
+    """Returns the facts of a log with these missing requests."""
+    world, facts = World(log), []
     for record in log.records:
         facts += world.told(record)
         for thread, mutex in missing.get(record.number, ()):
             facts += world.added(thread, mutex, record)
-    return facts, world
+    return facts
+
+
+def missing_of(log):
+    """Returns the requests that a log lacks, by the number of the record before each."""
+    return missing_requests(log, ownerships(told(log, {})))
 
 
 def facts_of(log):
-    """Returns the facts of a log, how many requests it lacks, and the world after them."""
-    facts, _ = told(log, {})
-    missing = missing_requests(log, ownerships(facts))
-    facts, world = told(log, missing)
-    return facts, sum(map(len, missing.values())), world
+    """Returns the facts of a log."""
+    return told(log, missing_of(log))

@@ -190,11 +190,11 @@ def is_request_of(log, fact):
         and log.mutexes.of[record.number] == fact.mutex
 
 
-def facts_of(whole, log, blocks):
+def facts_of(log, blocks):
     """Returns the facts of a log in the order of its records."""
     records = {record.number: record for record in log.records}
     told, added = {}, {}
-    for one in log_facts.facts_of(log)[0]:
+    for one in log_facts.facts_of(log):
         record = records[one.record]
         fact = Fact(record, one.thread, one.what, one.mutex, owner=one.owner, level=one.level)
         is_its = record.chunk.thread == one.thread and record.event == SAID_BY.get(one.what)
@@ -226,7 +226,7 @@ class Writer:
         self.names = Names(whole, self.log, places)
         blocks = Blocks(self.log.records).all() if whole.head.version >= reader.KINDS_SINCE else []
         self.mutexes = numbered(self.log.mutexes.of.values())
-        self.facts = facts_of(whole, self.log, blocks)
+        self.facts = facts_of(self.log, blocks)
         self.began, self.ended = whole.head.began, max([whole.head.began, *(one.time for one in self.log.records)])
         self.kernel, self.kernel_facts = None, []
         tasks = [task for _, task in self.log.identity.values()]

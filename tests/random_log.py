@@ -1,6 +1,6 @@
-"""Logs of random programs, some of them damaged, and how one is written as a text of
-suite/recordings. The same seed gives the same log. Those of odd seeds have places, in version 2."""
-from random_program import BEGAN, FIRST_TASK, PROCESS, Program
+"""Logs of random programs, some of them damaged. The same seed gives the same log. Those of odd
+seeds have places, in version 2."""
+from random_program import FIRST_TASK, PROCESS, Program
 from record_logs import log_of, reader
 
 ALL_KNOWN, KINDS, OWNERS = 7, 1, 4  # what the recorder may know of mutexes
@@ -78,18 +78,14 @@ class RandomLog:
         self.header = {"known": ALL_KNOWN if program.names_owners else ALL_KNOWN & ~OWNERS}
         if self.records and choose.random() < 0.1:
             choose.choice(VARIANTS)(choose, self.records, self.header)
-        self.is_damaged = len(self.records) > 1 and choose.random() < 0.3
-        for _ in range(choose.randint(1, 4) if self.is_damaged else 0):
+        is_damaged = len(self.records) > 1 and choose.random() < 0.3
+        for _ in range(choose.randint(1, 4) if is_damaged else 0):
             choose.choice(DAMAGES)(choose, self.records)
 
-    def data(self, records=None):
-        """Returns the log's bytes; or those of some of the records that count, as a whole log."""
+    def data(self):
+        """Returns the log's bytes."""
         header = dict(self.header)
-        if records is None:
-            records = self.records
-        else:
-            header.update(lost=0, first=0)
-        rows, times = [row for row, _ in records], [time for _, time in records]
+        rows, times = [row for row, _ in self.records], [time for _, time in self.records]
         if self.seed % 2:
             rows = [placed(row, (at + self.seed) % (len(PLACES) + 1)) for at, row in enumerate(rows)]
             header.update(places=PLACES)
@@ -97,62 +93,3 @@ class RandomLog:
         processes = {thread.number: thread.process for thread in self.threads}
         return bytes(log_of(rows, len(self.threads), times, tasks, processes, process=PROCESS,
                             **header))
-
-    def that_count(self):
-        """Returns the records that count, with their times."""
-        end = self.header.get("first") or len(self.records) + 1
-        return [record for record in self.records[:end - 1] if record[0]]
-
-
-# ---- as a text, in which thread 1 is task 701 of process 700, and the log begins at 0
-
-TEXT_TASK = 701
-WORDS = {event: name.upper().replace("-", "_") for event, name in reader.NAMES.items()}
-TYPES = ("", "recursive", "errorcheck", "adaptive")
-
-
-def text_of(log, records):
-    """Returns records as a text. It has no processes: the threads of a child are named."""
-    lines = []
-    for thread in log.threads:
-        if thread.task != FIRST_TASK + thread.number - 1:
-            lines.append(f"task {thread.number} {text_task(thread.task)}")
-        if thread.process != PROCESS:
-            lines.append(f"# Thread {thread.number} is of another process.")
-    for row, time in records:
-        lines.append(f"@{time - BEGAN} {words_of(row)}" if row else "# A number without a record.")
-    return "".join(f"{line}\n" for line in lines)
-
-
-def text_task(task):
-    return task - FIRST_TASK + TEXT_TASK if task else 0
-
-
-def words_of(row):
-    """Returns the words of a record."""
-    thread, event, target, value, detail, how = row
-    words = [str(thread), WORDS[event], f"{target:#x}" if target else ""]
-    if event in reader.WITH_DETAIL and detail:
-        words += words_of_mutex(detail)
-    if event in reader.WITH_PRIORITY:
-        policy = reader.POLICIES[detail & 15]
-        words.append(f"{policy} {detail >> 8}" if policy in ("fifo", "kept") else policy)
-    if event in (reader.GRANTED, reader.FAILED):
-        words.append(f"took {value}")
-    elif event == reader.REQUEST:
-        words.append(f"owner {text_task(value)}")
-    elif event == reader.PRIORITY and value:
-        words.append(f"value {text_task(value)}")
-    if event in reader.WITH_CALL:
-        words.append(reader.CALLS[how & ~reader.OWNER_DIED])
-        words.append("died" if how & reader.OWNER_DIED else "")
-    elif event in reader.WITH_ERROR:
-        words.append(f"error {how}")
-    return " ".join(filter(None, words))
-
-
-def words_of_mutex(detail):
-    protocol = reader.PROTOCOLS[detail & reader.PROTOCOL]
-    return [f"protect {detail >> 8}" if protocol == "protect" else protocol,
-            TYPES[detail & reader.TYPE], "robust" if detail & reader.ROBUST else "",
-            "shared" if detail & reader.SHARED else ""]

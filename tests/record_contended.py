@@ -114,7 +114,7 @@ def unannounced(reader, broken, folder):
         log = read(reader, path)
         fault = broken(log)
         others = [wait for wait in Report(path).waits() if wait.startswith("high") and not wait.endswith("inverted")]
-        _, lacking, _ = log_facts.facts_of(log_facts.Log(log.records))
+        lacking = len(log_facts.missing_of(log_facts.Log(log.records)))
         if fault or others or lacking:
             break
     check("each wait of high in missed is for low", fault or difference((others,), ([],)))

@@ -4,7 +4,7 @@ import pathlib
 import signal
 import time
 
-from checks import SECONDS, check, difference, ended, is_gone, proc_text, skip, stat_of, threads_of, until
+from checks import check, difference, ended, is_gone, proc_text, skip, stat_of, threads_of, until
 from record_collector import CHUNK_BYTES, HEADER_BYTES, MEGABYTE, PROGRAMS, RECORD, Running, counted, read, run
 from record_logs import change, log_of, reader, without_places
 

@@ -9,7 +9,7 @@ import sys
 import tempfile
 
 from checks import check, difference, end, skip
-from record_collector import RECORD, read, run
+from record_collector import RECORD, read
 from record_logs import log_of, reader
 from record_places import compiled, first_fault, recorded, same, texts_of
 from record_places import told as places_told

@@ -334,7 +334,7 @@ def stretches(found):
 
 
 def plain_bound(value, thread):
-    """Returns the bounds of a thread as docs/BLOCKING.md defines them, with *used* of sections."""
+    """Returns the bounds of a thread as docs/FINDINGS.md defines them, with *used* of sections."""
     number, level, used = thread["number"], thread["highest"], Counter()
     for one in value["sections"]:
         used[one["thread"], one["mutex"], one["level"]] = one["used"]
@@ -365,7 +365,7 @@ def bounds(found):
         wanted = [bound for bound in wanted if bound["inherit"]]
         if sorted(value["bounds"], key=str) != sorted(wanted, key=str):
             wrong.append(str(at))
-    check("the bounds are those of docs/BLOCKING.md", ", ".join(wrong[:5]))
+    check("the bounds are those of docs/FINDINGS.md", ", ".join(wrong[:5]))
 
 
 def is_in(windows, begin, end):
