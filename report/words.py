@@ -62,7 +62,7 @@ def without_function(place):
 
 def nanoseconds_of(text):
     """Returns the nanoseconds of a time as '1.5s' or '200ms', or None."""
-    found = re.fullmatch(r"(\d{1,12})(?:\.(\d{1,9}))?(s|ms|us|ns)", text)
+    found = re.fullmatch(r"(\d{1,19})(?:\.(\d{1,9}))?(s|ms|us|ns)", text)
     if not found:
         return None
     size = {"s": 10**9, "ms": 10**6, "us": 10**3, "ns": 1}[found[3]]

@@ -12,6 +12,7 @@ from other_programs import Fault
 from random_facts import RandomText
 from rows_text import Rows
 from trace_window import priorities_of
+from words import nanoseconds_of
 from world import World
 
 ALWAYS = 0, 10**19
@@ -157,6 +158,10 @@ def limits():
               " a window of a later time may have")
     got = fault_of(lambda: trace_of(*parts, 5, 9))
     check("257 threads at one time", difference((got,), (wanted,)))
+    parts = read(text_of(LIMITED + [one.format(10**18 + t, t) for t in range(1, 258)
+                                    for one in pair]))
+    named = fault_of(lambda: trace_of(*parts, *ALWAYS)).split(" ")[-2]
+    check("--to has the window that is named", difference((nanoseconds_of(named),), (10**18 + 256,)))
 
 
 def fault_of(made):
