@@ -1,11 +1,10 @@
 """A trace of a recording, which pim judges before it is kept: docs/TRACES-OF-RECORDINGS.md."""
 import pathlib
-import sys
 import textwrap
 
 from model_world import ModelWorld, hand_overs
 from other_programs import Progress, command_of, run
-from program import Fault
+from program import Fault, say
 from reported import Rejected, Reported
 from steps import Steps
 from trace_window import MOST_STEPS, TooLarge, Window
@@ -99,4 +98,4 @@ def write_trace(file, recording, since, until, judge):
     except OSError as fault:
         raise Fault(f"{file}: {fault.strerror}") from fault
     said = f"{file}: {trace.notes(recording.names)}"
-    print(textwrap.fill(said, 100), file=sys.stderr)
+    say(f"{textwrap.fill(said, 100)}\n")
