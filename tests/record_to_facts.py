@@ -352,6 +352,15 @@ def command(converter):
         done = run(*words)
         is_one = done.stderr.count(b"\n") in (1, 2) and b"pim-facts" in done.stderr
         check(f"pim-facts refuses {what}", difference((done.returncode, done.stdout, is_one), (2, b"", True)))
+    kernel = f"{KERNEL_HEAD}end 500 0 0\n".encode()
+    for ending, read in (("", data), (".kernel", kernel), (".places", b"1 0x10 a.c:1\n")):
+        converter.run(data, b"1 0x10 a.c:1\n", kernel)
+        done = run("-o", f"{log}{ending}", log)
+        wanted = f"pim-facts: {log}{ending}: it is read, and so isn't written\n".encode()
+        check(f"pim-facts writes no LOG{ending}", difference(
+            (done.returncode, done.stdout, done.stderr, pathlib.Path(f"{log}{ending}").read_bytes()),
+            (2, b"", wanted, read)))
+    converter.run(data)
     status, out, said = converter.run(None, None, KERNEL_HEAD.replace("clock ", "").encode())
     wanted = "pim-facts: LOG.kernel: line 3: it isn't the line that the head has there\n"
     check("a head of the kernel's events without its words is refused",

@@ -73,14 +73,24 @@ static const char *beside(const char *path, const char *ending) {
     return strcat(strcpy(name, path), ending);
 }
 
-/* Opens the file for the text, which isn't the log itself. */
-static int opened(const char *output, const char *path) {
+/* Refuses to write a file that is read: the log, or one next to it. */
+static void spare(const char *output, const char *path) {
+    static const char *const endings[] = { "", ".kernel", ".places" };
     struct stat status, other;
+    if (stat(output, &status) != 0) return;
+    for (size_t i = 0; i < sizeof endings / sizeof *endings; i++) {
+        bool is_there = stat(beside(path, endings[i]), &other) == 0;
+        if (is_there && status.st_dev == other.st_dev && status.st_ino == other.st_ino)
+            refuse(output, "it is read, and so isn't written");
+    }
+}
+
+/* Opens the file for the text. */
+static int opened(const char *output, const char *path) {
+    struct stat status;
+    spare(output, path);
     int file = open(output, O_WRONLY | O_CREAT | O_CLOEXEC, 0666);
     if (file < 0 || fstat(file, &status) != 0) refuse(output, "%s", strerror(errno));
-    bool is_there = stat(path, &other) == 0;
-    if (is_there && status.st_dev == other.st_dev && status.st_ino == other.st_ino)
-        refuse(output, "it is the log");
     if (S_ISREG(status.st_mode) && ftruncate(file, 0) != 0)
         refuse(output, "%s", strerror(errno));
     return file;
