@@ -1,6 +1,7 @@
 """What tests/record does with pim-facts: it writes of logs by hand what is written here, and of recordings, of random
 logs and of random kernel's events what plain_facts_of_log.py writes. Each text is one that the plain reader of facts
 finds valid. Damaged logs are refused, and clang's fuzzer finds no fault, where it is installed."""
+import os
 import pathlib
 import re
 import shutil
@@ -10,7 +11,7 @@ import plain_facts_of_log
 import record_futex_waits
 import record_other_waits
 import record_suite
-from checks import ROOT, SECONDS, check, difference, skip
+from checks import ROOT, SECONDS, answer, check, difference, skip
 from random_log import RandomLog
 from random_program import FIRST_TASK
 from record_logs import read_text
@@ -361,6 +362,11 @@ def command(converter):
             (done.returncode, done.stdout, done.stderr, pathlib.Path(f"{log}{ending}").read_bytes()),
             (2, b"", wanted, read)))
     converter.run(data)
+    pipe = pathlib.Path(f"{log}.kernel")
+    os.mkfifo(pipe)
+    wanted = 2, b"", f"pim-facts: {pipe}: it isn't a file\n".encode()
+    check("pim-facts waits for no pipe", difference(answer([CONVERTER, log], b""), wanted))
+    pipe.unlink()
     status, out, said = converter.run(None, None, KERNEL_HEAD.replace("clock ", "").encode())
     wanted = "pim-facts: LOG.kernel: line 3: it isn't the line that the head has there\n"
     check("a head of the kernel's events without its words is refused",

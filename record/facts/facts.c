@@ -48,11 +48,11 @@ static bool is_in_memory(int file) {
     return fstatfs(file, &system) == 0 && system.f_type == TMPFS_MAGIC;
 }
 
-/* Maps a file, which may be missing: then this returns NULL. */
+/* Maps a file, which may be missing: then this returns NULL. It waits for no pipe. */
 static const char *mapped(const char *path, bool may_lack, size_t *length) {
     struct stat status;
     *length = 0;
-    int file = open(path, O_RDONLY | O_CLOEXEC);
+    int file = open(path, O_RDONLY | O_NONBLOCK | O_CLOEXEC);
     if (file < 0 && may_lack && errno == ENOENT) return NULL;
     if (file < 0 || fstat(file, &status) != 0) refuse(path, "%s", strerror(errno));
     if (!S_ISREG(status.st_mode)) refuse(path, "it isn't a file");
