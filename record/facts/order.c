@@ -30,8 +30,9 @@ struct order {
     uint32_t *level;           /* by thread */
     bool *is_own;              /* by thread: it waits for itself */
     bool *is_kernels;          /* by thread: only the kernel's events show that it waits */
-    uint32_t (*ceilings)[LEVEL_MOST + 1]; /* by thread: how many of each it owns, if it counts */
-    uint32_t *ceiling;                    /* by mutex, or NONE */
+    /* By thread of the log: how many of each it owns, if it counts. */
+    uint32_t (*ceilings)[LEVEL_MOST + 1];
+    uint32_t *ceiling;         /* by mutex, or NONE */
     struct table owned_before; /* by thread and mutex */
     uint32_t *declared;        /* the threads, in the order of the log's numbers */
     uint32_t declared_count;
@@ -607,7 +608,8 @@ static void make(struct order *order) {
         const struct mutex *its = &order->log->mutexes[mutex];
         if (is_protect(its)) order->ceiling[mutex] = ceiling_of(its);
     }
-    size_t bytes = order->kernel->count ? threads * sizeof *order->ceilings : 0;
+    size_t logged = order->kernel->count ? order->kernel->first_other : 0;
+    size_t bytes = logged * sizeof *order->ceilings;
     order->ceilings = bytes ? memset(resized(NULL, bytes), 0, bytes) : NULL;
 }
 
