@@ -2,8 +2,6 @@
 #define _GNU_SOURCE
 #include "order.h"
 
-#include <string.h>
-
 /* The next facts behind one, or NONE. */
 struct behind {
     struct told *told;
