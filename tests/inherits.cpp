@@ -1,4 +1,4 @@
-// A mutex of each of the two forms that docs/INHERIT.md has: tests/record_inherit.py takes them from the page.
+// A mutex of each of the two forms that docs/FINDINGS.md has: tests/record_inherit.py takes them from the page.
 #include <condition_variable>
 #include <mutex>
 #include <pthread.h>

@@ -1,4 +1,4 @@
-"""What tests/record does with docs/INHERIT.md: both forms of its mutexes compile, and inherit."""
+"""What tests/record does with docs/FINDINGS.md: both forms of its mutexes compile, and inherit."""
 import pathlib
 import re
 import subprocess
@@ -6,7 +6,7 @@ import subprocess
 from checks import ROOT, answer, check, difference, skip
 from record_logs import without_end
 
-PAGE = ROOT / "docs/INHERIT.md"
+PAGE = ROOT / "docs/FINDINGS.md"
 RECORD = ROOT / "record"
 
 
@@ -36,9 +36,9 @@ def protocols(lines):
 
 def inherit(folder):
     if answer(["g++", "--version"])[0] != 0:
-        return skip("the mutexes of docs/INHERIT.md", "g++ is missing")
+        return skip("the mutexes of docs/FINDINGS.md", "g++ is missing")
     why = compiled(folder)
-    check("the mutexes of docs/INHERIT.md compile", why)
+    check("the mutexes of docs/FINDINGS.md compile", why)
     if why:
         return None
     status, out, err = answer([RECORD / "pim-record", "-o", f"{folder}/run", f"{folder}/inherits"])
