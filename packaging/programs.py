@@ -17,8 +17,7 @@ COMMANDS = ("record/out/pim-facts",)
 COPIED = """
 README.md CHANGELOG.md SECURITY.md VERSION docs examples web/README.md web/inversion.svg
 record/pim-record record/pim-log record/show record/from-lttng record/kernel_text.py record/places_text.py
-record/FORMAT.md record/KERNEL.md record/LAST.md record/PLACES.md record/WAITS.md
-record/FACTS-OF-LOGS.md record/COLLECTOR.md
+record/FORMAT.md record/FACTS-OF-LOGS.md record/INSIDE.md
 report
 record/recorded/inversion_inherit.log
 conform/pim-conform conform/compare.py conform/fuzz.py conform/walk.py

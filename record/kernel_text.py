@@ -1,4 +1,4 @@
-"""Reads, prints and checks the events that pim-record --kernel records. KERNEL.md has the form."""
+"""Reads, prints and checks the events that pim-record --kernel records. FORMAT.md has the form."""
 import re
 from collections import Counter, namedtuple
 

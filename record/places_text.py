@@ -1,5 +1,5 @@
 """Names the places of logs, in the code and of static mutexes: writes LOG.places, which
-record/PLACES.md specifies.
+record/FORMAT.md specifies.
 
 `pim-log --places` does so, and pim-record has it done when the program has ended.
 """

@@ -1,4 +1,4 @@
-/* kernel_lines FILE: writes events that are made here as lines of record/KERNEL.md, and prints what
+/* kernel_lines FILE: writes events that are made here as lines of record/FORMAT.md, and prints what
  * is counted of them. Then it writes to files that have no room. */
 #define _GNU_SOURCE
 #include <errno.h>

@@ -1,4 +1,4 @@
-"""The part of tests/record about the waits of pim-record --kernel, and who ended them: record/KERNEL.md.
+"""The part of tests/record about the waits of pim-record --kernel, and who ended them: record/FORMAT.md.
 
 `python3 tests/record_futex.py` plays it alone, once the recorder is built. record/programs/futexes.c has the calls. It
 prints what it knows of each wait; the recording has exactly these, and no other wake.

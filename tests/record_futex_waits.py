@@ -1,5 +1,5 @@
 """Random texts of the kernel's events, for record_to_facts.py. They are events of no program: most break laws of
-record/KERNEL.md, which a reader need not test."""
+record/FORMAT.md, which a reader need not test."""
 import random
 
 TASKS, LINES, BEGAN = (11, 12, 13, 14), (5, 300), 1000

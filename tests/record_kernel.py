@@ -982,7 +982,7 @@ def instance(folder):
 
 # ---- the lines of events
 
-# By KERNEL.md: calls and returns, priorities and states as they are given to put_event in kernel_lines.c.
+# By FORMAT.md: calls and returns, priorities and states as they are given to put_event in kernel_lines.c.
 WRITTEN = """\
 pim-kernel 2
 kernel {release} {machine}

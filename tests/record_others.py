@@ -1,4 +1,4 @@
-"""The part of tests/record about waits for what isn't a mutex, and about what ends them: record/WAITS.md.
+"""The part of tests/record about waits for what isn't a mutex, and about what ends them: record/FORMAT.md.
 
 `python3 tests/record_others.py` plays it alone, once the recorder is built. record/programs/others.c has the calls. It
 prints where its objects are, and what the calls returned. A thread sleeps before its wait is ended.

@@ -1,6 +1,7 @@
 """The part of tests/record about where in the code calls are made: the places in the records, and their lines.
 
-`python3 tests/record_places.py` plays it alone, once the recorder is built. record/PLACES.md says what is tested.
+`python3 tests/record_places.py` plays it alone, once the recorder is built. record/FORMAT.md and
+record/INSIDE.md say what is tested.
 """
 import os
 import pathlib

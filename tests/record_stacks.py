@@ -1,6 +1,7 @@
 """The part of tests/record about who called a lock that waits: pim-record --stacks.
 
-`python3 tests/record_stacks.py` plays it alone, once the recorder is built. record/PLACES.md says what is tested.
+`python3 tests/record_stacks.py` plays it alone, once the recorder is built. record/FORMAT.md and
+record/INSIDE.md say what is tested.
 """
 import os
 import pathlib

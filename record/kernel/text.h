@@ -1,4 +1,4 @@
-/* The file of a recording of the kernel's events: lines of text. ../KERNEL.md specifies it. */
+/* The file of a recording of the kernel's events: lines of text. ../FORMAT.md specifies it. */
 #ifndef TEXT_H
 #define TEXT_H
 
