@@ -1,4 +1,4 @@
-"""A trace of a recording, which pim judges before it is kept: docs/TRACES-OF-RECORDINGS.md."""
+"""A trace of a recording, which pim judges before it is kept: docs/REPORT.md, 'The trace'."""
 import pathlib
 import textwrap
 

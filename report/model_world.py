@@ -1,4 +1,4 @@
-"""The world of some facts as a lock manager has it: docs/TRACES-OF-RECORDINGS.md says how."""
+"""The world of some facts as a lock manager has it: docs/REPORT.md says how."""
 from bisect import bisect_left
 
 from facts_world import FactsWorld
