@@ -4,6 +4,7 @@ import hashlib
 import os
 import shutil
 
+import pages
 from files import ROOT, copy, filled, fix_modes, highest, run, write, zipped
 from programs import COMMANDS, PROGRAMS, SCRIPTS, binaries, glibc_of
 
@@ -104,6 +105,7 @@ def fill(root, programs):
             copy(path, documents / name)
         else:
             copy(path, own / name)
+    pages.unlink_missing(documents)
     (root / "usr/bin").mkdir(parents=True)
     for name in (*PROGRAMS, *SCRIPTS, *COMMANDS):
         (root / "usr/bin" / os.path.basename(name)).symlink_to(f"../lib/kulgyozi/{name}")

@@ -1,6 +1,7 @@
 """The folder kulgyozi-VERSION-x86_64-linux: programs and pages, with the repository's layout."""
 import re
 
+import pages
 import version
 from files import ROOT, Fault, copy, filled, highest, kit, run, tracked, write
 
@@ -54,11 +55,17 @@ def build(to, work):
     if not is_current(PAGE):
         run(ROOT / "web/build")
     copy(PAGE, to / "web/dist/index.html")
+    copy_tracked(to)
+    for name in LINKS:
+        (to / name).symlink_to(f"report/{name}")
+
+
+def copy_tracked(to):
+    """Copies what is copied as it is, and leaves out links of pages to files that aren't there."""
     for file in tracked(*COPIED):
         if not file.endswith(".in"):
             copy(ROOT / file, to / file)
-    for name in LINKS:
-        (to / name).symlink_to(f"report/{name}")
+    pages.unlink_missing(to)
 
 
 def is_current(page):
