@@ -146,7 +146,7 @@
 #include <stddef.h>
 #include <stdint.h>
 
-/* ARM and RISC-V of 32 bits: an experiment, and no promise. c/narrow/README.md describes it. */
+/* ARM and RISC-V of 32 bits: an experiment, and no promise. docs/PORTING.md describes it. */
 #if (defined(__arm__) && !defined(__ARMEB__)) || (defined(__riscv) && __riscv_xlen == 32)
 #define PIM_32_BITS
 #elif defined(UINTPTR_MAX) && UINTPTR_MAX != 0xFFFFFFFFFFFFFFFFu

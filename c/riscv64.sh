@@ -1,5 +1,5 @@
 #!/usr/bin/env bash
-# c/riscv64.sh: libpim for 64-bit RISC-V, an experiment that c/RISCV64.md describes. Proves pim_c, takes the LLVM
+# c/riscv64.sh: libpim for 64-bit RISC-V, an experiment that docs/PORTING.md describes. Proves pim_c, takes the LLVM
 # module that the toolchain makes of it for x86-64, and has the toolchain's clang compile it for RISC-V. Then runs the
 # demo, the threads and the replay of each example in qemu, and ends with status 0 if all of them print what they should.
 # Then c/out/riscv64/libpim.s is its assembly. Needs rt, gcc-riscv64-linux-gnu and qemu-user-static.

@@ -9,7 +9,7 @@ import c_traces
 from c_common import C, CORTEX_M3, HEADER, expect, run, said
 from checks import check, difference, skip
 
-NARROW, PAGE = C / "narrow", (C / "narrow/README.md").read_text()
+NARROW, PAGE = C / "narrow", (C.parent / "docs/PORTING.md").read_text()
 CPUS = ("cortex-m0", "cortex-m3", "cortex-r5", "rv32imac")
 HEAP = {"rattle_alloc", "rattle_dealloc", "rattle_realloc"}
 BARE = ("-Os", "-ffreestanding", "-fno-tree-loop-distribute-patterns", "-nostdlib")

@@ -1,4 +1,4 @@
-# qemu's machine virt with a 64-bit RISC-V. `run` reads the first three. RISCV64.md says what
+# qemu's machine virt with a 64-bit RISC-V. `run` reads the first three. docs/PORTING.md says what
 # libpim for this CPU rests on.
 QEMU = qemu-system-riscv64 -M virt -bios none
 TOOLS = riscv64-linux-gnu-gcc qemu-system-riscv64 qemu-riscv64-static
