@@ -3,6 +3,7 @@ import difflib
 import pathlib
 import random
 import re
+import shutil
 
 from checks import ROOT, answer, check, skip
 from conform_parts import same
@@ -214,6 +215,20 @@ def own_code(source, pim):
          (apart["123"], apart[""] > 0), 0, True)
 
 
+def patched(source, files):
+    """The patch makes of the files of 6.12 what the script makes of them."""
+    copy = source.parent / "patched"
+    (copy / "kernel/locking").mkdir(parents=True)
+    wanted = []
+    for file in files:
+        shutil.copy(file, copy / "kernel/locking")
+        wanted.append(answer([ROOT / "conform/mended/mend", file])[1])
+    patch = ROOT / "conform/mended/linux-6.12.117.patch"
+    status, _, err = answer(["patch", "-s", "-p1", "-d", copy, "-i", patch])
+    got = [(copy / "kernel/locking" / file.name).read_bytes() for file in files]
+    same("the patch for 6.12 makes the changes", (status, err, got), 0, b"", wanted)
+
+
 def installed_sources(pim, folder):
     """The changes can be made in each source that Debian's packages have put here, and mend it."""
     archives = sorted(pathlib.Path("/usr/src").glob("linux-source-*.tar.xz"))
@@ -230,6 +245,8 @@ def installed_sources(pim, folder):
             status, out, err = answer([ROOT / "conform/mended/mend", "--ways", ways, folder / name])
             is_changed = out != (folder / name).read_bytes()
             same(f"the change {ways} in {name}", (status, err, is_changed), 0, b"", True)
+        if archive.name.startswith("linux-source-6.12."):
+            patched(folder / "linux-source-6.12", [folder / name for name in names[:2]])
         own_code(folder / archive.name.partition(".tar")[0], pim)
     return None
 
