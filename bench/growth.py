@@ -12,8 +12,8 @@ run. With --time it is of nanoseconds of CPU time, the minimum of --repeat runs 
 draws it as SVG.
 
 examples:
-  bench/growth.py                             the tables and plot of docs/SPEED.md; takes minutes
-  bench/growth.py --docs                      and write them there
+  bench/growth.py                             what docs/SPEED.md plots; takes minutes
+  bench/growth.py --docs                      and write the plot and a table of ratios there
   bench/growth.py --time --plot /tmp/t.svg    in time, on an idle machine
   bench/growth.py --sizes 4 8 --steps 64      a trial that takes seconds
 """
@@ -36,6 +36,8 @@ PANELS = [
 SIZES = [4, 16, 64, 128, 192, 256]
 STEPS, STEPS_TIMED = 8192, 32768
 FIGURE = runs.ROOT / "docs/growth.svg"
+# What the table of docs/SPEED.md has. A queue has a waiter less than there are tasks.
+HEAD = "pim in parts of C++"
 
 
 def costs(commands, panel, size, folder, options):
@@ -63,15 +65,19 @@ def grown(commands, panel, folder, options):
 def rows(panel, sizes, curves):
     """Returns the lines of a panel's table."""
     head = [f"{panel.title}; {panel.across}", *map(str, sizes)]
-    ratios = [runs.ratio(ours, theirs) for ours, theirs in zip(*curves)]
     ours, theirs = ([f"{cost:,.0f}" for cost in curve] for curve in curves)
-    return [*runs.table(head, [["pim", *ours], ["C++", *theirs], ["ratio", *ratios]]), ""]
+    return [*runs.table(head, [["pim", *ours], ["C++", *theirs], ["ratio", *ratios(curves)]]), ""]
+
+
+def ratios(curves):
+    """Returns what pim takes at each size, in parts of what the other program takes."""
+    return [runs.ratio(ours, theirs) for ours, theirs in zip(*curves)]
 
 
 def main():
     options = arguments()
     unit = "nanoseconds" if options.time else "instructions"
-    lines, panels = [], []
+    shares, panels = [], []
     with tempfile.TemporaryDirectory() as folder:
         ours = runs.program(options.program) if options.program else runs.own_program()
         commands = [[ours], [runs.judge(folder)]]
@@ -82,13 +88,14 @@ def main():
             if options.only and panel.kind not in options.only:
                 continue
             sizes, curves = grown(commands, panel, folder, options)
-            lines += rows(panel, sizes, curves)
+            shares.append([f"{panel.title}; {panel.across}", *ratios(curves)])
             panels.append((panel.title, panel.across, f"{unit} a step", sizes, curves))
             print("\n".join(rows(panel, sizes, curves)), flush=True)
     drawn = plot.figure("What a step takes", ["pim, proved", "plain C++"], panels)
     if options.docs:
         FIGURE.write_text(drawn)
-        runs.publish("bench/growth.py", told, lines[:-1])
+        head = [HEAD, *map(str, options.sizes)]
+        runs.publish("bench/growth.py", told, runs.table(head, shares))
     if options.plot:
         pathlib.Path(options.plot).write_text(drawn)
 
