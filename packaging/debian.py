@@ -12,7 +12,7 @@ from programs import COMMANDS, PROGRAMS, SCRIPTS, binaries, glibc_of
 REVISION = 1
 MAINTAINER = "Kulgyozi maintainers <maintainers@users.noreply.kulgyozi.example>"
 # The folders whose files are documents.
-DOCUMENTS = ("docs/", "examples/", "web/", "record/recorded/")
+DOCUMENTS = ("docs/", "examples/", "web/")
 LIBRARIES = "usr/lib/x86_64-linux-gnu"
 CONTROL = """\
 Package: @PACKAGE@

@@ -20,7 +20,6 @@ README.md CHANGELOG.md SECURITY.md VERSION docs examples web/README.md web/inver
 record/pim-record record/pim-log record/show record/from-lttng record/kernel_text.py record/places_text.py
 record/FORMAT.md record/FACTS-OF-LOGS.md record/INSIDE.md
 report
-record/recorded/inversion_inherit.log
 conform/pim-conform conform/compare.py conform/fuzz.py conform/walk.py
 conform/set conform/performed
 """.split()
