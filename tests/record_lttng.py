@@ -112,6 +112,14 @@ def declarations():
         check(f"from-lttng declares {' '.join(options) or 'all'}", why)
 
 
+def cut_name():
+    """A name may be cut within a character. Each byte of it that is none becomes a dot."""
+    text = events((0, 1, "trylock", 16, 0)).encode().replace(b'"low"', b'"caf\xc3"')
+    status, out, err = answer([str(SCRIPT)], text, env={**os.environ, "PYTHONIOENCODING": "utf-8:strict"})
+    check("from-lttng: a name that is cut within a character",
+          difference((status, b"thread 1 0 caf.\n" in out, err), (0, True, b"")))
+
+
 def clocks():
     """Times of day go on behind midnight, and events of others are passed over."""
     evening, morning = "23:59:59.{:09}", "00:00:00.{:09}"
@@ -127,6 +135,7 @@ def refused():
     several = one + line(1, 2, "trylock", 16, 0, process=8)
     cases = {
         "no events": ("", (), "no event of lttng_ust_pthread"),
+        "a thread that is no number": (one.replace("vtid = 1", "vtid = x"), (), "line 1: a field of it is no number"),
         "no context": (one.replace("vtid", "tid"), (), "line 1: it has no vtid: record with 'lttng add-context -u"),
         "cycles for a time": (one.replace("1795778223.000000000", "00000123456"), (), "line 1: its time should be"),
         "several processes": (several, (), "events of the processes 8, 9: choose one by --pid"),
@@ -138,6 +147,8 @@ def refused():
         status, _, err, lines = facts(text, *options)
         got = (status, lines, err.startswith(f"from-lttng: {wanted}"))
         check(f"from-lttng refuses {name}", difference(got, (2, [], True)) and err)
+    got = answer(["sh", "-c", 'exec "$0" <&-', str(SCRIPT)])
+    check("from-lttng without an input", difference(got, (2, b"", b"from-lttng: standard input is closed\n")))
     status, got, err, _ = facts(several, "--pid", "8")
     check("from-lttng --pid", difference((status, got, err), (0, ["0 2 took 16"], "")))
     for options in (("--level", "high=100"), ("--protocol", "ceiling"), ("--protocol", "protect:0"), ("nothing",)):
@@ -204,6 +215,7 @@ def lttng(folder):
     """Plays all of it."""
     by_hand()
     declarations()
+    cut_name()
     clocks()
     refused()
     with tempfile.TemporaryDirectory(dir=folder) as own:
