@@ -1,8 +1,10 @@
 """The part of a recording that a trace is made of, and what is numbered in it."""
 from model_world import ModelWorld
+from program import Fault
 
 MOST_TASKS = MOST_MUTEXES = 256
 MOST_STEPS = 65_536
+MOST_LEVELS = 99
 
 
 class TooLarge(Exception):
@@ -16,6 +18,8 @@ class TooLarge(Exception):
 def priorities_of(levels):
     """Returns the priority of each level: itself, if that leaves all apart, or one more, or else
     its place among them. As it is, level 0 is priority 1, and level 100 is 99."""
+    if len(levels) > MOST_LEVELS:
+        raise Fault(f"a trace has no room for more than {MOST_LEVELS} levels")
     if not {0, 1} <= levels and not {99, 100} <= levels:
         return {level: min(max(level, 1), 99) for level in levels}
     if not levels & {99, 100}:

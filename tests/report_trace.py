@@ -161,7 +161,8 @@ def limits():
     parts = read(text_of(LIMITED + [one.format(10**18 + t, t) for t in range(1, 258)
                                     for one in pair]))
     named = fault_of(lambda: trace_of(*parts, *ALWAYS)).split(" ")[-2]
-    check("--to has the window that is named", difference((nanoseconds_of(named),), (10**18 + 256,)))
+    why = difference((nanoseconds_of(named),), (10**18 + 256,))
+    check("--to has the window that is named", why)
 
 
 def fault_of(made):
@@ -179,6 +180,11 @@ def scales():
                            ({98, 99, 100}, {98: 1, 99: 2, 100: 3}), ({99}, {99: 99}), (set(), {})):
         wrong += [] if priorities_of(levels) == wanted else [str(levels)]
     check("priorities of levels", ", ".join(wrong))
+    most = priorities_of({*range(50), *range(52, 101)})
+    check("priorities of 99 levels", difference((*most.values(),), (*range(1, 100),)))
+    why = "a trace has no room for more than 99 levels"
+    got = fault_of(lambda: priorities_of({*range(50), *range(51, 101)}))
+    check("100 levels", difference((got,), (why,)))
 
 
 def commands(folder, pim, run):
