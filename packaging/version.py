@@ -14,7 +14,7 @@ import sys
 
 ROOT = pathlib.Path(__file__).resolve().parent.parent
 FILE = ROOT / "VERSION"
-# A file, and what is there once. Of version 1.2.3 {major} is 1, {minor} 2, {patch} 3, {series} 1.2
+# A file, and what is there once. For version 1.2.3, {major} is 1, {minor} 2, {patch} 3, {series} 1.2
 # and {number} 10203.
 PLACES = [
     ("crates/pim_tool/src/command_line.rt", '.version("{version}")'),

@@ -188,8 +188,8 @@ class Log:
 
     def named(self, request):
         """Returns the thread that a REQUEST names as the owner, or None if there is none: the last
-        with the task that began before, or else that of the next GRANTED, if it has the task. Of a
-        mutex that isn't shared it is of the process."""
+        with the task that began before, or else that of the next GRANTED, if it has the task. It is
+        of the mutex's process, unless the mutex is shared."""
         number, grant, thread = request.number, self.next_grant(request), None
         for begin in self.begins.get(request.value, ()):
             if begin.number < number:

@@ -41,7 +41,7 @@ def relocked(thread):
 
 BOTH = begin(HIGH, FIFO_80) + begin(LOW, FIFO_10)
 ALL = BOTH + begin(MIDDLE, FIFO_40)
-# Of each log by hand the waits of high, which is at 80: how many ns, of whom, at which level, and whether it was inverted.
+# The waits of high, at 80, in each log by hand: how many ns, of whom, at which level, and whether they were inverted.
 OWNERS = {
     "an owner that has its GRANTED behind the REQUEST":
         (BOTH + once(HIGH) + asks(101) + relocked(LOW) + once(HIGH), [(40, 101, 10, True)]),

@@ -142,7 +142,7 @@ static void has_ceiling(struct order *order, uint32_t thread, uint32_t ceiling, 
 
 /* ---- what a thread stops before it does something else ---- */
 
-/* Of a fact or, of what is added, of none. */
+/* The fact is none where the line is added. */
 static void give_up(struct order *order, uint32_t thread, const struct fact *fact) {
     if (order->awaits[thread] == NONE) return;
     begin_line(order, order->now, thread, " gave-up", order->awaits[thread]);
