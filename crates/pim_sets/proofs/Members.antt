@@ -38,21 +38,6 @@ filter_few p a (suc n) = go (p a) (filter_few p (a + 1) n)
     go true few = omega (arith, few)
     go false few = omega (arith, few)
 
-filter_filter : (p q : ℕ → Bool) (xs : List ℕ) → filter p (filter q xs) ≡ filter (λ k. p k && q k) xs
-filter_filter p q [] = refl
-filter_filter p q (x ∷ xs) = go (p x) (q x) refl refl (filter_filter p q xs)
-  where
-    go :
-        (b d : Bool)
-        → p x ≡ b
-        → q x ≡ d
-        → filter p (filter q xs) ≡ filter (λ k. p k && q k) xs
-        → filter p (filter q (x ∷ xs)) ≡ filter (λ k. p k && q k) (x ∷ xs)
-    go true true here there rest = rw (there, here) (ap (λ ys. x ∷ ys) rest)
-    go false true here there rest = rw (there, here) rest
-    go true false here there rest = rw (there, here) rest
-    go false false here there rest = rw (there, here) rest
-
 -- what comes after the last that passes adds nothing
 filter_prefix :
     (p : ℕ → Bool) (a n m : ℕ)
@@ -220,17 +205,3 @@ pub members_known :
     → members words ≡ filter q (numbers n)
 unfolding members
 members_known words q n few nobody same none = filter_known (has words) q n 320 (omega (arith, few)) nobody same none
-
--- of the set's numbers those pass that are known and pass another test
-pub filter_members :
-    (words : List ℕ) (p q : ℕ → Bool) (n : ℕ)
-    → n < 320
-    → p 0 ≡ false
-    → ((k : ℕ) → 1 ≤ k → k ≤ n → (p k && has words k) ≡ q k)
-    → ((k : ℕ) → n < k → p k ≡ false)
-    → filter p (members words) ≡ filter q (numbers n)
-unfolding members
-filter_members words p q n few nobody same none =
-    filter_filter p (has words) (range_with_len 0 320)
-    ∙ filter_known (λ k. p k && has words k) q n 320 (omega (arith, few)) (ap (λ b. b && has words 0) nobody) same
-    (λ k low. ap (λ b. b && has words k) (none k low))
