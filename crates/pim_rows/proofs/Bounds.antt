@@ -1,13 +1,14 @@
 -- Which times of a wait are above which.
-use Rattle.std.proofs.Common.{◌≡◌, inl, inr, ℕ, zero, suc, ◌+◌, ◌-◌, ◌<◌, ◌≤◌, Bool, true, false, ◌&&◌, refl, ap, arith, Option, Some, None, List, [], ◌∷◌, is_some, is_none, if◌then◌else◌, nat_lt, length, map, unwrap_or}
+use Rattle.std.proofs.Common.{◌≡◌, inl, inr, ℕ, zero, suc, ◌+◌, ◌-◌, ◌<◌, ◌≤◌, Bool, true, false}
+use Rattle.std.proofs.Common.{◌&&◌, refl, ap, arith, Option, Some, None, List, [], ◌∷◌, is_some}
+use Rattle.std.proofs.Common.{is_none, if◌then◌else◌, nat_lt, length, unwrap_or}
 use Rattle.std.specs.Option.{option_and_then}
 use Rattle.std.proofs.lemmas.Bool.{cond-true, and_parts, and_from, ltb-true, lt-ltb, cases_lt}
 use Rattle.std.proofs.lemmas.Option.{slice_get_past}
-use Rattle.pim_base.specs.State.{State, base_of, owned}
-use Rattle.pim_base.specs.Priorities.{own_priority, ceiling_of}
-use Rattle.pim_base.proofs.Greatest.{greatest-cons}
+use Rattle.pim_base.specs.State.{State, base_of}
 use Rattle.pim_base.proofs.Effective.{effective_law}
 use Rattle.pim_waits.specs.Waiting.{gets, runner}
+use Rattle.pim_waits.proofs.Owning.{base-le-own}
 use Rattle.pim_world.specs.Worlds.{World, blocked_at}
 use Rattle.pim_rows.specs.Moments.{Moment, now, clock, stretch, began, time}
 use Rattle.pim_rows.specs.Standing.{waits, could_run, inverted_by, is_lower, meanwhile_of}
@@ -22,7 +23,10 @@ if-le true false n h = let no : false ≡ true = h refl in cc
 if-le false true n h = omega arith
 if-le false false n h = omega arith
 
-if-if-le : (a b : Bool) (n : ℕ) → (a ≡ true → b ≡ true → ⊥) → (if a then n else 0) + (if b then n else 0) ≤ n
+if-if-le :
+    (a b : Bool) (n : ℕ)
+    → (a ≡ true → b ≡ true → ⊥)
+    → (if a then n else 0) + (if b then n else 0) ≤ n
 if-if-le true true n h = absurd (h refl refl)
 if-if-le true false n h = omega arith
 if-if-le false true n h = omega arith
@@ -44,16 +48,22 @@ time-le lasts one other implied (m ∷ ms) =
     go false newest before = omega arith
 
 -- two things that never hold at one time hold for no longer than it lasts
-time-time-le : (lasts one other : World → Bool) → ((w : World) → one w ≡ true → other w ≡ true → ⊥) →
+time-time-le :
+    (lasts one other : World → Bool)
+    → ((w : World) → one w ≡ true → other w ≡ true → ⊥)
+    →
     (ms : List Moment) → IsInOrder ms →
-    (time lasts one ms + time lasts other ms ≤ clock ms - clock (began lasts ms)) × (clock (began lasts ms) ≤ clock ms)
+    (time lasts one ms + time lasts other ms ≤ clock ms - clock (began lasts ms))
+    × (clock (began lasts ms) ≤ clock ms)
 time-time-le lasts one other apart [] ok = (omega arith, omega arith)
 time-time-le lasts one other apart (m ∷ ms) ok =
     go (lasts (now ms)) (if-if-le (one (now ms)) (other (now ms)) (stretch m ms) (apart (now ms)))
     (time-time-le lasts one other apart ms ok.1)
   where
     go : (b : Bool) →
-        (if one (now ms) then stretch m ms else 0) + (if other (now ms) then stretch m ms else 0) ≤ stretch m ms →
+        (if one (now ms) then stretch m ms else 0)
+        + (if other (now ms) then stretch m ms else 0) ≤ stretch m ms
+        →
         (time lasts one ms + time lasts other ms ≤ clock ms - clock (began lasts ms))
         × (clock (began lasts ms) ≤ clock ms) →
         ((if b then time lasts one ms + (if one (now ms) then stretch m ms else 0) else 0)
@@ -65,28 +75,40 @@ time-time-le lasts one other apart (m ∷ ms) ok =
 
 -- ---- threads
 
-base-le-own : (S : State) (t : ℕ) → base_of S t ≤ own_priority S t
-base-le-own S t = omega (arith, greatest-cons (base_of S t) (map (ceiling_of S) (owned S t)))
-
 -- a thread gets no less than its level
 pub base-le-gets : (S : State) (t : ℕ) → base_of S t ≤ gets S t
 base-le-gets S zero = omega arith
 base-le-gets S (suc i) = elim (cases_lt i (length S.base)) [
   | inl known ↦
-      omega (arith, base-le-own S (suc i), (effective_law S (suc i) (omega arith, omega arith)).itself)
+      omega (
+        arith,
+        base-le-own S (suc i),
+        (effective_law S (suc i) (omega arith, omega arith)).itself,
+      )
   | inr unknown ↦
-      let none : base_of S (suc i) ≡ 0 = ap (λ o. unwrap_or o 0) (slice_get_past S.base i unknown) in omega arith
+      let none : base_of S (suc i) ≡ 0 =
+      ap (λ o. unwrap_or o 0) (slice_get_past S.base i unknown) in omega arith
 ]
 
 -- whoever has less of what is no smaller has less of this
-less_of_smaller : (has of : ℕ → ℕ) (could : ℕ → Bool) (level : ℕ) → ((r : ℕ) → of r ≤ has r) → (o : Option ℕ) →
-    is_some (option_and_then (λ r. if could r && nat_lt (has r) level then Some r else None) o) ≡ true →
-    is_some (option_and_then (λ r. if could r && nat_lt (of r) level then Some r else None) o) ≡ true
+less_of_smaller :
+    (has of : ℕ → ℕ) (could : ℕ → Bool) (level : ℕ)
+    → ((r : ℕ) → of r ≤ has r)
+    → (o : Option ℕ)
+    →
+    is_some (option_and_then (λ r. if could r && nat_lt (has r) level then Some r else None) o)
+    ≡ true →
+    is_some (option_and_then (λ r. if could r && nat_lt (of r) level then Some r else None) o)
+    ≡ true
 less_of_smaller has of could level smaller None h = h
 less_of_smaller has of could level smaller (Some r) h =
     go (could r && nat_lt (has r) level) refl h
   where
-    go : (b : Bool) → (could r && nat_lt (has r) level) ≡ b → is_some (if b then Some r else None) ≡ true →
+    go :
+        (b : Bool)
+        → (could r && nat_lt (has r) level) ≡ b
+        → is_some (if b then Some r else None) ≡ true
+        →
         is_some (if could r && nat_lt (of r) level then Some r else None) ≡ true
     go true e h =
         let parts = and_parts (could r) (nat_lt (has r) level) e in
@@ -96,9 +118,13 @@ less_of_smaller has of could level smaller (Some r) h =
 
 inverted-lower : (t : ℕ) (w : World) → is_inverted t w ≡ true → is_lower w t ≡ true
 inverted-lower t w h =
-    less_of_smaller (gets w.state) (base_of w.state) (could_run w) (gets w.state t) (base-le-gets w.state) (runner w.state t) h
+    less_of_smaller (gets w.state)
+    (base_of w.state) (could_run w) (gets w.state t) (base-le-gets w.state) (runner w.state t) h
 
-some_before : (f : ℕ → Option ℕ) (o : Option ℕ) → is_some (option_and_then f o) ≡ true → is_some o ≡ true
+some_before :
+    (f : ℕ → Option ℕ) (o : Option ℕ)
+    → is_some (option_and_then f o) ≡ true
+    → is_some o ≡ true
 some_before f None h = h
 some_before f (Some x) h = refl
 
@@ -112,18 +138,24 @@ blocked_apart : (at : ℕ → Option ℕ) (less : ℕ → Bool) (o : Option ℕ)
 blocked_apart at less None h blocked = cc
 blocked_apart at less (Some r) h blocked = go (at r) (less r) h blocked
   where
-    go : (o : Option ℕ) (b : Bool) → is_some (if is_none o && b then Some r else None) ≡ true → is_some o ≡ true → ⊥
+    go :
+        (o : Option ℕ) (b : Bool)
+        → is_some (if is_none o && b then Some r else None) ≡ true
+        → is_some o ≡ true
+        → ⊥
     go None b h blocked = cc
     go (Some x) b h blocked = cc
 
 lower-stalled : (t : ℕ) (w : World) → is_lower w t ≡ true → is_stalled t w ≡ true → ⊥
 lower-stalled t w h blocked =
-    blocked_apart (blocked_at w) (λ r. nat_lt (base_of w.state r) (gets w.state t)) (runner w.state t) h blocked
+    blocked_apart (blocked_at w)
+    (λ r. nat_lt (base_of w.state r) (gets w.state t)) (runner w.state t) h blocked
 
 pub bounds_law : BoundsLaw
 bounds_law t ms ok =
     let sums = sums_law t ms in
-    let lasted = time-time-le (waits t) (λ w. is_lower w t) (is_stalled t) (lower-stalled t) ms ok in
+    let lasted =
+    time-time-le (waits t) (λ w. is_lower w t) (is_stalled t) (lower-stalled t) ms ok in
     let less = time-le (waits t) (is_inverted t) (λ w. is_lower w t) (inverted-lower t) ms in
     let least = time-le (waits t) (has_meanwhile t) (is_inverted t) (meanwhile-inverted t) ms in
     record {

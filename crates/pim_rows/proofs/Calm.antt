@@ -1,5 +1,6 @@
 -- The waits that are inverted.
-use Rattle.std.proofs.Common.{◌≡◌, ◌≤◌, ◌<◌, ◌+◌, ℕ, zero, suc, true, false, List, length, Option, Some, None, refl, sym, ◌∙◌, ap, subst, inl, inr, arith}
+use Rattle.std.proofs.Common.{◌≡◌, ◌≤◌, ◌<◌, ◌+◌, ℕ, zero, suc, true, false, List, length, Option}
+use Rattle.std.proofs.Common.{Some, None, refl, sym, ◌∙◌, ap, subst, inl, inr, arith}
 use Rattle.std.specs.Option.{option_map}
 use Rattle.std.proofs.lemmas.Bool.{cases_lt}
 use Rattle.std.proofs.lemmas.Bool.Decides.{eqb_tells}
@@ -34,7 +35,11 @@ calm_past opens zero h o e = cc
 calm_past opens (suc i) h o e =
     let no : None ≡ Some (Some o) = sym (slice_get_past opens i (omega (arith, h))) ∙ e in cc
 
-pub calm_all : (opens : List (Option OpenWait)) (ts : List ℕ) (n : ℕ) → length opens ≤ n → AreCalm opens ts n → AreInverted ts opens
+pub calm_all :
+    (opens : List (Option OpenWait)) (ts : List ℕ) (n : ℕ)
+    → length opens ≤ n
+    → AreCalm opens ts n
+    → AreInverted ts opens
 calm_all opens ts n all calm t out = elim (cases_lt n t) [
   | inl past ↦ calm_past opens t (omega (arith, all, past))
   | inr h ↦ calm t h out
@@ -45,10 +50,15 @@ no_key f None e = refl
 no_key f (Some x) e = cc
 
 -- a thread that waits, and isn't one of these, isn't inverted
-pub calm_now : (ms : List Moment) (opens : List (Option OpenWait)) (ts : List ℕ) → AreOpen opens ms → AreInverted ts opens
+pub calm_now :
+    (ms : List Moment) (opens : List (Option OpenWait)) (ts : List ℕ)
+    → AreOpen opens ms
+    → AreInverted ts opens
     → (t : ℕ) → waits t (now ms) ≡ true → contains ts t ≡ false → inverted_by (now ms) t ≡ None
 calm_now ms opens ts are inverted t lasts out =
     let kept = are.all t lasts in
     let follows = are.each t kept.0 kept.1 in
-    let none : kept.0.standing.inverted ≡ None = inverted t out kept.0 (kept_here (nth opens t) kept.0 (sym kept.1)) in
-    no_key (inverted_key (now ms) t) (inverted_by (now ms) t) (ap (λ s. s.inverted) follows.current ∙ none)
+    let none : kept.0.standing.inverted ≡ None =
+    inverted t out kept.0 (kept_here (nth opens t) kept.0 (sym kept.1)) in
+    no_key (inverted_key (now ms) t)
+    (inverted_by (now ms) t) (ap (λ s. s.inverted) follows.current ∙ none)

@@ -1,11 +1,14 @@
 -- Changes of a table.
-use Rattle.std.proofs.Common.{◌≡◌, ◌∙◌, ℕ, zero, suc, ◌+◌, ◌<◌, ◌≤◌, ◌^◌, Bool, true, false, refl, sym, ap, arith, Option, Some, None, Result, Ok, Err, IfOk, OnErr, [], ◌∷◌, length, set, insert, unwrap_or, map, is_some, if◌then◌else◌}
+use Rattle.std.proofs.Common.{◌≡◌, ◌∙◌, ℕ, zero, suc, ◌+◌, ◌<◌, ◌≤◌, ◌^◌, Bool, true, false, refl}
+use Rattle.std.proofs.Common.{sym, ap, arith, Option, Some, None, Result, Ok, Err, IfOk, OnErr, []}
+use Rattle.std.proofs.Common.{◌∷◌, length, set, insert, unwrap_or, map, is_some, if◌then◌else◌}
 use Rattle.std.proofs.lemmas.Bool.{and_from, eq-eqb, ne_eqb, cond-false}
 use Rattle.std.proofs.lemmas.List.Sums.{prefix_len-le-length, sum_by-cons}
 use Rattle.std.specs.List.{position}
 use Rattle.std.specs.Option.{option_map_or}
 use Rattle.pim_rows.specs.Standing.{Key}
-use Rattle.pim_rows.specs.Tables.{Table, same_key, precedes, reaches, place, value_at, change, add, total}
+use Rattle.pim_rows.specs.Tables.{Table, same_key, precedes, reaches, place, value_at, change, add}
+use Rattle.pim_rows.specs.Tables.{total}
 
 pub place-le-length : {V : Type 0} (k : Key) (rows : Table V) → place k rows ≤ length rows
 place-le-length k rows = prefix_len-le-length _ rows
@@ -28,15 +31,18 @@ change-at {V = V} k by (row ∷ rest) =
     next = omega arith
 
     behind : (o : Option V) (n : ℕ) →
-        change k by rest ≡ option_map_or (λ x. set rest n (k, by (Some x))) o (insert rest n (k, by None)) →
+        change k by rest
+        ≡ option_map_or (λ x. set rest n (k, by (Some x))) o (insert rest n (k, by None)) →
         row ∷ change k by rest
-        ≡ option_map_or (λ x. set (row ∷ rest) (suc n) (k, by (Some x))) o (insert (row ∷ rest) (suc n) (k, by None))
+        ≡ option_map_or (λ x. set (row ∷ rest) (suc n) (k, by (Some x))) o
+        (insert (row ∷ rest) (suc n) (k, by None))
     behind None n h = ap (λ (xs : Table V). row ∷ xs) h
     behind (Some x) n h = ap (λ (xs : Table V). row ∷ xs) h
 
     go : (s p : Bool) → same_key row.0 k ≡ s → precedes k row.0 ≡ p →
         change k by rest
-        ≡ option_map_or (λ x. set rest (place k rest) (k, by (Some x))) (value_at k rest (place k rest))
+        ≡ option_map_or
+        (λ x. set rest (place k rest) (k, by (Some x))) (value_at k rest (place k rest))
         (insert rest (place k rest) (k, by None)) →
         change k by (row ∷ rest)
         ≡ option_map_or (λ x. set (row ∷ rest) (place k (row ∷ rest)) (k, by (Some x)))
@@ -68,7 +74,8 @@ value_at-le-total k (row ∷ rest) (suc i) x h =
 pub total-change : (k : Key) (time : ℕ) (rows : Table ℕ) →
     total (change k (λ sum. unwrap_or sum 0 + time) rows) ≡ total rows + time
 total-change k time [] = omega arith
-total-change k time (row ∷ rest) = go (same_key row.0 k) (precedes k row.0) refl refl (total-change k time rest)
+total-change k time (row ∷ rest) =
+    go (same_key row.0 k) (precedes k row.0) refl refl (total-change k time rest)
   where
     go : (s p : Bool) → same_key row.0 k ≡ s → precedes k row.0 ≡ p →
         total (change k (λ sum. unwrap_or sum 0 + time) rest) ≡ total rest + time →
@@ -80,7 +87,8 @@ total-change k time (row ∷ rest) = go (same_key row.0 k) (precedes k row.0) re
 
 -- the sum fits as well if there was no memory
 pub total-added : {A E : Type 0} (k : Key) (time : ℕ) (old new : Table ℕ) (result : Result A E) →
-    IfOk result (λ _. new ≡ change k (λ sum. unwrap_or sum 0 + time) old) → OnErr result (new ≡ old) →
+    IfOk result (λ _. new ≡ change k (λ sum. unwrap_or sum 0 + time) old)
+    → OnErr result (new ≡ old) →
     total old + time < 2 ^ 64 → total new < 2 ^ 64
 total-added k time old new (Ok _) ok err fits = rw ok (omega (arith, total-change k time old))
 total-added k time old new (Err _) ok err fits = rw err (omega arith)
@@ -100,14 +108,18 @@ change-change {V = V} k f g both (row ∷ rest) h =
         change k f (change k g rest) ≡ change k both rest →
         change k f (change k g (row ∷ rest)) ≡ change k both (row ∷ rest)
     go true p hs hp later = rw hs (rw (same_key-self k) (ap (λ x. (k, x) ∷ rest) (h (Some row.1))))
-    go false true hs hp later = rw (hs, hp) (rw (same_key-self k) (ap (λ x. (k, x) ∷ row ∷ rest) (h None)))
-    go false false hs hp later = rw (hs, hp) (rw (hs, hp) (ap (λ (rows : Table V). row ∷ rows) later))
+    go false true hs hp later =
+        rw (hs, hp) (rw (same_key-self k) (ap (λ x. (k, x) ∷ row ∷ rest) (h None)))
+    go false false hs hp later =
+        rw (hs, hp) (rw (hs, hp) (ap (λ (rows : Table V). row ∷ rows) later))
 
 add-positive : (k : Key) (time : ℕ) (rows : Table ℕ) → 0 < time →
     add (Some k) time rows ≡ change k (λ sum. unwrap_or sum 0 + time) rows
 add-positive k time rows h = cond-false _ _ _ (ne_eqb time 0 (λ e. omega arith))
 
-pub add-add : (k : Option Key) (a b : ℕ) (rows : Table ℕ) → add k a (add k b rows) ≡ add k (b + a) rows
+pub add-add :
+    (k : Option Key) (a b : ℕ) (rows : Table ℕ)
+    → add k a (add k b rows) ≡ add k (b + a) rows
 add-add None a b rows = refl
 add-add (Some k) zero b rows = ap (λ n. add (Some k) n rows) (omega arith)
 add-add (Some k) (suc a) zero rows = ap (λ n. add (Some k) n rows) (omega arith)
@@ -129,10 +141,14 @@ total-add_if (Some k) zero rows = omega arith
 total-add_if (Some k) (suc time) rows =
     rw (add-positive k (suc time) rows (omega arith)) (total-change k (suc time) rows)
 
-pub total-add : (k : Option Key) (time : ℕ) (rows : Table ℕ) → total (add k time rows) ≤ total rows + time
+pub total-add :
+    (k : Option Key) (time : ℕ) (rows : Table ℕ)
+    → total (add k time rows) ≤ total rows + time
 total-add None time rows = omega arith
 total-add (Some k) zero rows = omega arith
 total-add (Some k) (suc time) rows =
-    rw (add-positive k (suc time) rows (omega arith)) (omega (arith, total-change k (suc time) rows))
+    rw (add-positive k (suc time) rows (omega arith))
+    (omega (arith, total-change k (suc time) rows))
 
-pub ruleset changes = (unwrap_or_position, place-le-length, change-at, value_at-le-total, total-change)
+pub ruleset changes =
+    (unwrap_or_position, place-le-length, change-at, value_at-le-total, total-change)

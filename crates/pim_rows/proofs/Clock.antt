@@ -45,12 +45,16 @@ clock-le-after w (lines.Object x) = omega arith
 clock-le-after w lines.Unseen = omega arith
 clock-le-after w (lines.Fact time t what) =
     let same : (at (w.thread t) (after_what what) (at_time time w)).clock ≡ max w.clock time =
-    clock-at (w.thread t) (after_what what) (at_time time w) (λ n. clock-after_what what n (at_time time w)) in
+    clock-at (w.thread t)
+    (after_what what) (at_time time w) (λ n. clock-after_what what n (at_time time w)) in
     omega arith
 clock-le-after w (lines.Lost time) = omega arith
 clock-le-after w (lines.End time) = omega arith
 
-followed-in_order : (ls : List Line) (ms : List Moment) → IsInOrder ms → IsInOrder (fold followed_by ms ls)
+followed-in_order :
+    (ls : List Line) (ms : List Moment)
+    → IsInOrder ms
+    → IsInOrder (fold followed_by ms ls)
 followed-in_order [] ms ok = ok
 followed-in_order (line ∷ ls) ms ok =
     followed-in_order ls (followed_by ms line) (clock-le-after (now ms) line, ok)

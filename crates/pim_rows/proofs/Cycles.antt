@@ -1,5 +1,7 @@
--- A walk from a thread along its waits, until it is back or has made as many hops as there are threads.
-use Rattle.std.proofs.Common.{◌≡◌, ℕ, zero, suc, ◌+◌, ◌-◌, ◌<◌, ◌≤◌, List, [], ◌∷◌, ◌++◌, map, refl, sym, ap, ◌∙◌, arith, append_assoc, append-nil}
+-- A walk from a thread along its waits, until it is back or has made as many hops as there are
+-- threads.
+use Rattle.std.proofs.Common.{◌≡◌, ℕ, zero, suc, ◌+◌, ◌-◌, ◌<◌, ◌≤◌, List, [], ◌∷◌, ◌++◌, map, refl}
+use Rattle.std.proofs.Common.{sym, ap, ◌∙◌, arith, append_assoc, append-nil}
 use Rattle.std.specs.Option.{option_map_or}
 use Rattle.std.specs.Prelude.{true, false, ◌==◌, Option, Some, None, drop}
 use Rattle.std.proofs.lemmas.Bool.Decides.{nat_tests}
@@ -17,7 +19,10 @@ chain-hops : (hop : ℕ → Option ℕ) (n t : ℕ) → chain hop n t ≡ t ∷ 
 chain-hops hop zero t = refl
 chain-hops hop (suc n) t = go (hop t) (chain-hops hop n)
   where
-    go : (o : Option ℕ) → ((u : ℕ) → chain hop n u ≡ u ∷ hops hop n (hop u)) → t ∷ option_map_or (chain hop n) o [] ≡ t ∷ hops hop (suc n) o
+    go :
+        (o : Option ℕ)
+        → ((u : ℕ) → chain hop n u ≡ u ∷ hops hop n (hop u))
+        → t ∷ option_map_or (chain hop n) o [] ≡ t ∷ hops hop (suc n) o
     go None rest = refl
     go (Some u) rest = ap (λ us. t ∷ us) (rest u)
 
@@ -29,21 +34,28 @@ hops-none : (hop : ℕ → Option ℕ) (n : ℕ) → hops hop n None ≡ []
 hops-none hop zero = refl
 hops-none hop (suc n) = refl
 
-hops-some : (hop : ℕ → Option ℕ) (n i u : ℕ) → i < n → hops hop (n - i) (Some u) ≡ u ∷ hops hop (n - (i + 1)) (hop u)
+hops-some :
+    (hop : ℕ → Option ℕ) (n i u : ℕ)
+    → i < n
+    → hops hop (n - i) (Some u) ≡ u ∷ hops hop (n - (i + 1)) (hop u)
 hops-some hop n i u h =
     let e : n - i ≡ suc (n - (i + 1)) = omega arith in ap (λ k. hops hop k (Some u)) e
 
 -- a walk has made i hops, next comes a thread if there is one, and these are the numbers so far
-pub record Walks (hop : ℕ → Option ℕ) (number : ℕ → ℕ) (t n i : ℕ) (next : Option ℕ) (items : List ℕ) : Type 0 where
+pub record Walks (hop : ℕ → Option ℕ)
+    (number : ℕ → ℕ) (t n i : ℕ) (next : Option ℕ) (items : List ℕ) : Type 0 where
   pub found : contains (hops hop (n - i) next) t ≡ contains (hops hop n (hop t)) t
-  pub numbers : items ++ map number (before t (hops hop (n - i) next)) ≡ map number (t ∷ before t (hops hop n (hop t)))
+  pub numbers : items ++ map number (before t (hops hop (n - i) next))
+      ≡ map number (t ∷ before t (hops hop n (hop t)))
 
 pub walk_start : (hop : ℕ → Option ℕ) (number : ℕ → ℕ) (t n : ℕ) (next : Option ℕ) (items : List ℕ)
     → next ≡ hop t → items ≡ number t ∷ [] → Walks hop number t n 0 next items
 walk_start hop number t n next items one first =
     let e : n - 0 ≡ n = omega arith in
     record {
-      found = ap (λ o. contains (hops hop (n - 0) o) t) one ∙ ap (λ k. contains (hops hop k (hop t)) t) e;
+      found =
+          ap (λ o. contains (hops hop (n - 0) o) t) one
+          ∙ ap (λ k. contains (hops hop k (hop t)) t) e;
       numbers =
           ap (λ o. items ++ map number (before t (hops hop (n - 0) o))) one
           ∙ ap (λ k. items ++ map number (before t (hops hop k (hop t)))) e
@@ -51,7 +63,8 @@ walk_start hop number t n next items one first =
     }
 
 -- the next thread isn't t
-pub walk_more : (hop : ℕ → Option ℕ) (number : ℕ → ℕ) (t n i u : ℕ) (here next : Option ℕ) (items more : List ℕ)
+pub walk_more : (hop : ℕ → Option ℕ)
+    (number : ℕ → ℕ) (t n i u : ℕ) (here next : Option ℕ) (items more : List ℕ)
     → i < n → (u ≡ t → ⊥) → here ≡ Some u → next ≡ hop u → more ≡ items ++ number u ∷ []
     → Walks hop number t n i here items → Walks hop number t n (i + 1) next more
 walk_more hop number t n i u here next items more h apart is one pushed w =
@@ -72,31 +85,45 @@ walk_more hop number t n i u here next items more h apart is one pushed w =
     }
 
 -- no thread comes next
-pub walk_none : (hop : ℕ → Option ℕ) (number : ℕ → ℕ) (t n i k : ℕ) (here : Option ℕ) (items : List ℕ)
-    → n ≡ k → here ≡ None → Walks hop number t n i here items → false ≡ contains (drop 1 (chain hop k t)) t
+pub walk_none : (hop : ℕ → Option ℕ)
+    (number : ℕ → ℕ) (t n i k : ℕ) (here : Option ℕ) (items : List ℕ)
+    → n ≡ k
+    → here ≡ None
+    → Walks hop number t n i here items
+    → false ≡ contains (drop 1 (chain hop k t)) t
 walk_none hop number t n i k here items count is w =
     sym (ap (λ us. contains us t) (ap (hops hop (n - i)) is ∙ hops-none hop (n - i)))
-    ∙ w.found ∙ sym (ap (λ us. contains us t) (drop-chain hop n t)) ∙ ap (λ j. contains (drop 1 (chain hop j t)) t) count
+    ∙ w.found ∙ sym (ap (λ us. contains us t) (drop-chain hop n t))
+    ∙ ap (λ j. contains (drop 1 (chain hop j t)) t) count
 
 -- there were n hops
-pub walk_end : (hop : ℕ → Option ℕ) (number : ℕ → ℕ) (t n i k : ℕ) (next : Option ℕ) (items : List ℕ)
-    → n ≡ k → n ≤ i → Walks hop number t n i next items → false ≡ contains (drop 1 (chain hop k t)) t
+pub walk_end : (hop : ℕ → Option ℕ)
+    (number : ℕ → ℕ) (t n i k : ℕ) (next : Option ℕ) (items : List ℕ)
+    → n ≡ k
+    → n ≤ i
+    → Walks hop number t n i next items
+    → false ≡ contains (drop 1 (chain hop k t)) t
 walk_end hop number t n i k next items count h w =
     let e : n - i ≡ 0 = omega arith in
     sym (ap (λ j. contains (hops hop j next) t) e)
-    ∙ w.found ∙ sym (ap (λ us. contains us t) (drop-chain hop n t)) ∙ ap (λ j. contains (drop 1 (chain hop j t)) t) count
+    ∙ w.found ∙ sym (ap (λ us. contains us t) (drop-chain hop n t))
+    ∙ ap (λ j. contains (drop 1 (chain hop j t)) t) count
 
 -- t comes next
-pub walk_found : (hop : ℕ → Option ℕ) (number : ℕ → ℕ) (t n i u k : ℕ) (here : Option ℕ) (items : List ℕ)
+pub walk_found : (hop : ℕ → Option ℕ)
+    (number : ℕ → ℕ) (t n i u k : ℕ) (here : Option ℕ) (items : List ℕ)
     → n ≡ k → i < n → u ≡ t → here ≡ Some u → Walks hop number t n i here items
-    → (true ≡ contains (drop 1 (chain hop k t)) t) × (items ≡ map number (t ∷ before t (drop 1 (chain hop k t))))
+    → (true ≡ contains (drop 1 (chain hop k t)) t)
+    × (items ≡ map number (t ∷ before t (drop 1 (chain hop k t))))
 walk_found hop number t n i u k here items count h same is w =
     let step = ap (hops hop (n - i)) is ∙ hops-some hop n i u h in
     let flipped : (t == u) ≡ true = grind (arith, nat_tests) in
     let back : (u == t) ≡ true = grind (arith, nat_tests) in (
       sym (ap (λ us. contains us t) step ∙ simp flipped)
-          ∙ w.found ∙ sym (ap (λ us. contains us t) (drop-chain hop n t)) ∙ ap (λ j. contains (drop 1 (chain hop j t)) t) count,
-      sym (append-nil items) ∙ sym (ap (λ us. items ++ map number (before t us)) step ∙ simp back) ∙ w.numbers
+          ∙ w.found ∙ sym (ap (λ us. contains us t) (drop-chain hop n t))
+          ∙ ap (λ j. contains (drop 1 (chain hop j t)) t) count,
+      sym (append-nil items)
+          ∙ sym (ap (λ us. items ++ map number (before t us)) step ∙ simp back) ∙ w.numbers
           ∙ sym (ap (λ us. map number (t ∷ before t us)) (drop-chain hop n t))
           ∙ ap (λ j. map number (t ∷ before t (drop 1 (chain hop j t)))) count,
     )

@@ -1,9 +1,11 @@
 -- What holds of inverted waits after each line.
-use Rattle.std.proofs.Common.{◌≡◌, ◌≢◌, ℕ, ◌<◌, ◌==◌, Bool, true, false, not, ◌&&◌, cond, List, [], ◌∷◌, Option, Some, None, is_some, is_none, nat_lt, option_and_then, unwrap_or, IsTrue, refl, sym, ◌∙◌, ap, subst, arith, if◌then◌else◌}
+use Rattle.std.proofs.Common.{◌≡◌, ◌≢◌, ℕ, ◌<◌, ◌==◌, Bool, true, false, not, ◌&&◌, cond, List, []}
+use Rattle.std.proofs.Common.{◌∷◌, Option, Some, None, is_some, is_none, nat_lt, option_and_then}
+use Rattle.std.proofs.Common.{refl, sym, ◌∙◌, ap, subst, arith, if◌then◌else◌}
 use Rattle.std.specs.List.{fold}
-use Rattle.std.proofs.lemmas.Bool.{cond-true, and_parts, and_from, ltb-true, lt-ltb, eq-eqb, true≢false}
+use Rattle.std.proofs.lemmas.Bool.{cond-true, and_parts, and_from, ltb-true, lt-ltb, eq-eqb}
+use Rattle.std.proofs.lemmas.Bool.{true≢false}
 use Rattle.std.proofs.lemmas.Option.{same_Some, none-some}
-use Rattle.pim_base.specs.Lists.{nth}
 use Rattle.pim_base.specs.State.{base_of}
 use Rattle.pim_fact_lines.specs.declared.line.Line.{Line}
 use Rattle.pim_waits.specs.Awaited.{awaited_of}
@@ -12,19 +14,21 @@ use Rattle.pim_waits.specs.Laws.{HasLowRunner, WayPassesOn, IsIdleOwner, WaitsFo
 use Rattle.pim_waits.proofs.Runners.{runner_law}
 use Rattle.pim_waits.proofs.Blaming.{blame_law, blame_exists_law, passing_law}
 use Rattle.pim_waits.proofs.Idle.{idle_owner_law}
-use Rattle.pim_world.specs.declared.kernel.Off.{Off}
 use Rattle.pim_world.specs.Worlds.{World, Kernel, no_world, blocked_at, last_cpu}
 use Rattle.pim_world.specs.After.{after}
 use Rattle.pim_world.specs.Steady.{IsSteadyKernel, IsSteady}
 use Rattle.pim_world.proofs.Steadiness.{steady_law}
 use Rattle.pim_rows.specs.Moments.{Moment, now, first_moments, followed_by}
-use Rattle.pim_rows.specs.Standing.{could_run, inverted_by, meanwhile_of, in_place_of, is_ready_off, off_of, run_level}
+use Rattle.pim_rows.specs.Standing.{could_run, inverted_by, meanwhile_of, in_place_of, is_ready_off}
+use Rattle.pim_rows.specs.Standing.{off_of, run_level}
 use Rattle.pim_rows.specs.Rows.{moments_of}
 use Rattle.pim_rows.specs.Laws.{is_inverted}
 use Rattle.pim_rows.specs.Inversions.{HasInversionLaws, InversionLaw}
 
 -- the world after lines
-pub now-fold : (ls : List Line) (ms : List Moment) → now (fold followed_by ms ls) ≡ fold after (now ms) ls
+pub now-fold :
+    (ls : List Line) (ms : List Moment)
+    → now (fold followed_by ms ls) ≡ fold after (now ms) ls
 now-fold [] ms = refl
 now-fold (l ∷ ls) ms = now-fold ls (followed_by ms l)
 
@@ -41,7 +45,10 @@ module _ (w : World) (t : ℕ) where
   abbrev is_low : ℕ → Bool
   is_low r = could_run w r && nat_lt (gets w.state r) (gets w.state t)
 
-  inverted_parts : (r : ℕ) → inverted_by w t ≡ Some r → (runner w.state t ≡ Some r) × (gets w.state r < gets w.state t)
+  inverted_parts :
+      (r : ℕ)
+      → inverted_by w t ≡ Some r
+      → (runner w.state t ≡ Some r) × (gets w.state r < gets w.state t)
   inverted_parts r e = go (runner w.state t) refl e
     where
       go :
@@ -52,8 +59,10 @@ module _ (w : World) (t : ℕ) where
       go None is e = absurd (none-some r e)
       go (Some x) is e =
           let kept = kept_if (is_low x) x r e in
-          let low : is_low r ≡ true = ap is_low (sym kept.1) ∙ kept.0 in
-          (is ∙ ap Some kept.1, ltb-true (gets w.state r) (gets w.state t) (and_parts (could_run w r) _ low).1)
+          let low : is_low r ≡ true = ap is_low (sym kept.1) ∙ kept.0 in (
+            is ∙ ap Some kept.1,
+            ltb-true (gets w.state r) (gets w.state t) (and_parts (could_run w r) _ low).1,
+          )
 
   low_runner : (r : ℕ) → inverted_by w t ≡ Some r → HasLowRunner w.state t
   low_runner r e = let parts = inverted_parts r e in (r, parts.0, parts.1)
@@ -62,7 +71,11 @@ module _ (w : World) (t : ℕ) where
   inverter : is_inverted t w ≡ true → (r : ℕ) × (inverted_by w t ≡ Some r)
   inverter e = go (inverted_by w t) refl e
     where
-      go : (o : Option ℕ) → inverted_by w t ≡ o → is_some o ≡ true → (r : ℕ) × (inverted_by w t ≡ Some r)
+      go :
+          (o : Option ℕ)
+          → inverted_by w t ≡ o
+          → is_some o ≡ true
+          → (r : ℕ) × (inverted_by w t ≡ Some r)
       go None is e = cc
       go (Some r) is e = (r, is)
 
@@ -81,7 +94,8 @@ module _ (w : World) (t : ℕ) where
       → IsIdleOwner w.state m u
       → blocked_at w u ≡ None
       → awaited_of w.state t ≡ Some m
-      → (is_inverted t w ≡ true → base_of w.state u < gets w.state t) × (base_of w.state u < gets w.state t → is_inverted t w ≡ true)
+      → (is_inverted t w ≡ true → base_of w.state u < gets w.state t)
+      × (base_of w.state u < gets w.state t → is_inverted t w ≡ true)
   idle m u s owner free awaits = (there, back)
     where
       known : WaitsForIdle w.state t u
@@ -93,8 +107,10 @@ module _ (w : World) (t : ℕ) where
       back : base_of w.state u < gets w.state t → is_inverted t w ≡ true
       back low =
           let less : gets w.state u < gets w.state t = omega (arith, low, known.level) in
-          let is : is_low u ≡ true = and_from _ _ (ap is_none free) (lt-ltb (gets w.state u) (gets w.state t) less) in
-          ap is_some (ap (option_and_then (λ r. if is_low r then Some r else None)) known.runs ∙ cond-true (is_low u) (Some u) None is)
+          let is : is_low u ≡ true =
+          and_from _ _ (ap is_none free) (lt-ltb (gets w.state u) (gets w.state t) less) in
+          ap is_some (ap (option_and_then (λ r. if is_low r then Some r else None)) known.runs
+          ∙ cond-true (is_low u) (Some u) None is)
 
   -- a thread on a CPU isn't one that is off
   on_other : (k : Kernel) (n r u : ℕ) → IsSteadyKernel k n → in_place_of k r ≡ Some u → u ≢ r
@@ -104,7 +120,11 @@ module _ (w : World) (t : ℕ) where
       at None e = absurd (none-some u e)
       at (Some cpu) e = (cpu, e)
 
-      go : (b : Bool) → is_ready_off (off_of k r) ≡ b → cond b (option_and_then k.on (last_cpu k r)) None ≡ Some u → ⊥
+      go :
+          (b : Bool)
+          → is_ready_off (off_of k r) ≡ b
+          → cond b (option_and_then k.on (last_cpu k r)) None ≡ Some u
+          → ⊥
       go false is e = none-some u e
       go true is e =
           let on = at (last_cpu k r) e in
@@ -125,7 +145,8 @@ module _ (w : World) (t : ℕ) where
       go None is e = absurd (none-some u e)
       go (Some v) is e =
           let kept = kept_if (above v) v u e in
-          let not_t : not (u == t) ≡ true = (and_parts (not (u == t)) _ (ap above (sym kept.1) ∙ kept.0)).0 in (
+          let not_t : not (u == t) ≡ true =
+          (and_parts (not (u == t)) _ (ap above (sym kept.1) ∙ kept.0)).0 in (
             λ same. true≢false (sym not_t ∙ ap not (eq-eqb u t same)),
             on_other w.kernel _ r u s.kernel (is ∙ ap Some kept.1),
           )

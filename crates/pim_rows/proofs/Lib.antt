@@ -19,7 +19,6 @@ pub mod Cycles
 pub mod Opening
 pub mod Ended
 pub mod WaitRows
-pub mod Lost
 pub mod Finishing
 pub mod Passing
 pub mod EndedRows

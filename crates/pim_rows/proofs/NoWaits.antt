@@ -1,45 +1,53 @@
 -- Rows of which none is of a wait for a mutex.
-use Rattle.std.proofs.Common.{◌≡◌, ◌∙◌, ℕ, ◌+◌, Bool, true, false, ◌||◌, List, [], ◌∷◌, refl, sym, ap, Option, Some, None, if◌then◌else◌, cond, arith, inl, inr}
-use Rattle.std.proofs.lemmas.Bool.Decides.{leb_tells}
+use Rattle.std.proofs.Common.{◌≡◌, ◌∙◌, ℕ, ◌+◌, Bool, true, false, List, [], ◌∷◌, refl, zero-add}
+use Rattle.std.proofs.Common.{ap, Option, Some, None, if◌then◌else◌, cond}
 use Rattle.std.specs.Prelude.{flat_map, count_by, nat_lt}
 use Rattle.std.specs.Option.{option_map_or}
-use Rattle.std.specs.List.{list_any}
-use Rattle.std.proofs.lemmas.List.Sums.{sum_by-append, sum_by-cons}
-use Rattle.pim_fact_lines.specs.declared.line.What.{What}
+use Rattle.std.proofs.lemmas.List.Sums.{sum_by-append}
 use Rattle.pim_fact_lines.specs.declared.line.What.TheVariants as whats
 use Rattle.pim_fact_lines.specs.declared.line.Ended.TheVariants as ends
 use Rattle.pim_rows.specs.Moments.{Moment, now, number, clock, began}
 use Rattle.pim_rows.specs.Begun.{RunStart, run_start, block}
 use Rattle.pim_rows.specs.Episodes.{is_blocked, is_run_apart, run_apart}
 use Rattle.pim_rows.specs.Words.{Row}
-use Rattle.pim_rows.specs.Rows.{wait_with, blocked_row, ran_row, ran_rows, ended_run, resumed, lasting_block, lasting_run}
-
-zero_more : (n : ℕ) → 0 + n ≡ n
-zero_more n = omega arith
+use Rattle.pim_rows.specs.Rows.{wait_with, blocked_row, ran_row, ran_rows, ended_run}
+use Rattle.pim_rows.specs.Rows.{lasting_block, lasting_run}
 
 -- this holds of none of the rows of any item
 pub count-flat_map :
-    {X : Type 0} (p : Row → Bool) (f : X → List Row) → ((x : X) → count_by p (f x) ≡ 0) → (xs : List X)
+    {X : Type 0} (p : Row → Bool) (f : X → List Row)
+    → ((x : X) → count_by p (f x) ≡ 0) → (xs : List X)
     → count_by p (flat_map f xs) ≡ 0
 count-flat_map p f never [] = refl
 count-flat_map p f never (x ∷ xs) =
-    sum_by-append (λ r. cond (p r) 1 0) (f x) (flat_map f xs) ∙ ap (λ n. n + count_by p (flat_map f xs)) (never x)
-    ∙ zero_more (count_by p (flat_map f xs)) ∙ count-flat_map p f never xs
+    sum_by-append (λ r. cond (p r) 1 0) (f x) (flat_map f xs)
+    ∙ ap (λ n. n + count_by p (flat_map f xs)) (never x)
+    ∙ zero-add (count_by p (flat_map f xs)) ∙ count-flat_map p f never xs
 
 module _ (h : ℕ → Bool) where
-  one_or_none : (r : Row) (b : Bool) → wait_with h r ≡ false → count_by (wait_with h) (if b then r ∷ [] else []) ≡ 0
+  one_or_none :
+      (r : Row) (b : Bool)
+      → wait_with h r ≡ false
+      → count_by (wait_with h) (if b then r ∷ [] else []) ≡ 0
   one_or_none r true no_wait = ap (λ b. 0 + cond b 1 0) no_wait
   one_or_none r false no_wait = refl
 
-  pub count-lasting_block : (ms : List Moment) (t : ℕ) → count_by (wait_with h) (lasting_block ms t) ≡ 0
+  pub count-lasting_block :
+      (ms : List Moment) (t : ℕ)
+      → count_by (wait_with h) (lasting_block ms t) ≡ 0
   count-lasting_block ms t =
-      one_or_none (blocked_row (block t (began (is_blocked t) ms)) ms 0 ends.Unknown) (is_blocked t (now ms)) refl
+      one_or_none (blocked_row (block t (began (is_blocked t) ms)) ms 0 ends.Unknown)
+      (is_blocked t (now ms)) refl
 
-  pub count-ran_rows : (start : RunStart) (time until : ℕ) → count_by (wait_with h) (ran_rows start time until) ≡ 0
-  count-ran_rows start time until = one_or_none (ran_row start time until) (nat_lt start.from time) refl
+  pub count-ran_rows :
+      (start : RunStart) (time until : ℕ)
+      → count_by (wait_with h) (ran_rows start time until) ≡ 0
+  count-ran_rows start time until =
+      one_or_none (ran_row start time until) (nat_lt start.from time) refl
 
   of_option :
-      {X : Type 0} (f : X → List Row) → ((x : X) → count_by (wait_with h) (f x) ≡ 0) → (o : Option X)
+      {X : Type 0} (f : X → List Row)
+      → ((x : X) → count_by (wait_with h) (f x) ≡ 0) → (o : Option X)
       → count_by (wait_with h) (option_map_or f o []) ≡ 0
   of_option f never None = refl
   of_option f never (Some x) = never x
@@ -47,48 +55,26 @@ module _ (h : ℕ → Bool) where
   pub count-lasting_run : (ms : List Moment) (t : ℕ) → count_by (wait_with h) (lasting_run ms t) ≡ 0
   count-lasting_run ms t =
       of_option (λ both. ran_rows (run_start t both (began (is_run_apart t both) ms)) (clock ms) 0)
-      (λ both. count-ran_rows (run_start t both (began (is_run_apart t both) ms)) (clock ms) 0) (run_apart (now ms) t)
+      (λ both. count-ran_rows (run_start t both (began (is_run_apart t both) ms)) (clock ms) 0)
+      (run_apart (now ms) t)
 
-  none_or : (rs : List Row) (b : Bool) → count_by (wait_with h) rs ≡ 0 → count_by (wait_with h) (if b then [] else rs) ≡ 0
+  none_or :
+      (rs : List Row) (b : Bool)
+      → count_by (wait_with h) rs ≡ 0
+      → count_by (wait_with h) (if b then [] else rs) ≡ 0
   none_or rs true none = refl
   none_or rs false none = none
 
-  pub count-ended_run : (ms before : List Moment) (t : ℕ) → count_by (wait_with h) (ended_run ms before t) ≡ 0
+  pub count-ended_run :
+      (ms before : List Moment) (t : ℕ)
+      → count_by (wait_with h) (ended_run ms before t) ≡ 0
   count-ended_run ms before t =
       of_option
       (λ both. if is_run_apart t both (now ms) then []
       else ran_rows (run_start t both (began (is_run_apart t both) before)) (clock ms) (number ms))
-      (λ both. none_or (ran_rows (run_start t both (began (is_run_apart t both) before)) (clock ms) (number ms))
+      (λ both. none_or
+      (ran_rows (run_start t both (began (is_run_apart t both) before)) (clock ms) (number ms))
       (is_run_apart t both (now ms))
-      (count-ran_rows (run_start t both (began (is_run_apart t both) before)) (clock ms) (number ms)))
+      (count-ran_rows
+      (run_start t both (began (is_run_apart t both) before)) (clock ms) (number ms)))
       (run_apart (now before) t)
-
-  pub count-resumed : (ms before : List Moment) (t : ℕ) (what : What) → count_by (wait_with h) (resumed ms before t what) ≡ 0
-  count-resumed ms before t (whats.Granted m) = refl
-  count-resumed ms before t (whats.Took m) = refl
-  count-resumed ms before t (whats.Waits m) = refl
-  count-resumed ms before t (whats.GaveUp m) = refl
-  count-resumed ms before t (whats.Released m) = refl
-  count-resumed ms before t (whats.Priority level) = refl
-  count-resumed ms before t (whats.Ceiling m level) = refl
-  count-resumed ms before t (whats.Blocks x) = refl
-  count-resumed ms before t (whats.Resumes x ended) =
-      one_or_none (blocked_row (block t (began (is_blocked t) before)) ms (number ms) ended) true refl
-  count-resumed ms before t (whats.Runs level) = refl
-  count-resumed ms before t (whats.On cpu) = refl
-  count-resumed ms before t whats.OffReady = refl
-  count-resumed ms before t whats.OffAsleep = refl
-
--- ---- whether there is one
-
-or_counted : (b a : Bool) (n : ℕ) → a ≡ nat_lt 0 n → b || a ≡ nat_lt 0 (cond b 1 0 + n)
-or_counted true a n is =
-    elim (leb_tells 1 (1 + n)) [ inl (h, _) ↦ sym h | inr (_, less) ↦ absurd (omega arith) ]
-or_counted false a n is = is ∙ ap (nat_lt 0) (sym (zero_more n))
-
--- there is one of which this holds if they are more than none
-pub any_counted : {X : Type 0} (p : X → Bool) (xs : List X) → list_any p xs ≡ nat_lt 0 (count_by p xs)
-any_counted p [] = refl
-any_counted p (x ∷ xs) =
-    or_counted (p x) (list_any p xs) (count_by p xs) (any_counted p xs)
-    ∙ ap (nat_lt 0) (sym (sum_by-cons (λ y. cond (p y) 1 0) x xs))

@@ -1,5 +1,6 @@
 -- The numbers that pass a test, one after another.
-use Rattle.std.proofs.Common.{◌≡◌, ◌<◌, ℕ, zero, suc, Bool, true, false, ◌++◌, ◌∷◌, [], ◌∙◌, ap, arith}
+use Rattle.std.proofs.Common.{◌≡◌, ◌<◌, ℕ, zero, suc, Bool, true, false, ◌++◌, ◌∷◌, [], ◌∙◌, ap}
+use Rattle.std.proofs.Common.{arith}
 use Rattle.std.proofs.lemmas.List.Sums.{fold-append}
 use Rattle.std.specs.List.{fold, filter}
 use Rattle.pim_base.specs.Lists.{numbers}
@@ -15,7 +16,8 @@ filtered-next p last zero less is none = absurd (omega (arith, less))
 filtered-next p last (suc m) less is none =
     filter_numbers-pass p (suc m) m (omega arith) is
     ∙ ap (λ xs. xs ++ suc m ∷ [])
-    (filter_numbers-until p last m (omega (arith, less)) (λ k low high. none k low (omega (arith, high))))
+    (filter_numbers-until p last m
+    (omega (arith, less)) (λ k low high. none k low (omega (arith, high))))
 
 -- one number more, of those that pass
 pub fold_filtered-next :
@@ -23,4 +25,5 @@ pub fold_filtered-next :
     → last < next → p next ≡ true → ((k : ℕ) → last < k → k < next → p k ≡ false)
     → fold f x (filter p (numbers next)) ≡ f (fold f x (filter p (numbers last))) next
 fold_filtered-next f x p last next less is none =
-    ap (fold f x) (filtered-next p last next less is none) ∙ fold-append f x (filter p (numbers last)) (next ∷ [])
+    ap (fold f x) (filtered-next p last next less is none)
+    ∙ fold-append f x (filter p (numbers last)) (next ∷ [])

@@ -15,7 +15,8 @@ Decides-same_key j k =
     let a : j.0 ≡ k.0 = h.0.0 in let b : j.1 ≡ k.1 = h.0.1 in let c : j.2 ≡ k.2 = h.1 in
     let same : (j.0, j.1, j.2) ≡ (k.0, k.1, k.2) = cc in same)
     (λ e. ((ap (λ (i : Key). i.0) e, ap (λ (i : Key). i.1) e), ap (λ (i : Key). i.2) e))
-    (Decides-and _ _ (Decides-and _ _ (Decides-eqb j.0 k.0) (Decides-eqb j.1 k.1)) (Decides-eqb j.2 k.2))
+    (Decides-and _ _
+    (Decides-and _ _ (Decides-eqb j.0 k.0) (Decides-eqb j.1 k.1)) (Decides-eqb j.2 k.2))
 
 Decides-option_eq : (p q : Option Key) → Decides (option_eq same_key p q) (p ≡ q)
 Decides-option_eq None None = (λ h. refl, λ h. refl)
@@ -45,10 +46,29 @@ Decides-is_same_standing a b =
         (ap (λ (s : Standing). s.stalled) e, ap (λ (s : Standing). s.meanwhile) e),
       ),
     ))
-    (Decides-and _ _ (booleans_Decides a.lower b.lower) (Decides-and _ _ (Decides-option_eq a.inverted b.inverted)
-    (Decides-and _ _ (Decides-option_eq a.stalled b.stalled) (Decides-option_eq a.meanwhile b.meanwhile))))
+    (Decides-and _ _ (booleans_Decides a.lower b.lower)
+    (Decides-and _ _ (Decides-option_eq a.inverted b.inverted)
+    (Decides-and _ _
+    (Decides-option_eq a.stalled b.stalled) (Decides-option_eq a.meanwhile b.meanwhile))))
   where
-    same : (a b : Standing) → a.lower ≡ b.lower → a.inverted ≡ b.inverted → a.stalled ≡ b.stalled → a.meanwhile ≡ b.meanwhile → a ≡ b
+    same :
+        (a b : Standing)
+        → a.lower ≡ b.lower
+        → a.inverted ≡ b.inverted
+        → a.stalled ≡ b.stalled
+        → a.meanwhile ≡ b.meanwhile
+        → a ≡ b
     same a b l i s m =
-        let parts : record { lower = a.lower; inverted = a.inverted; stalled = a.stalled; meanwhile = a.meanwhile }
-        ≡ record { lower = b.lower; inverted = b.inverted; stalled = b.stalled; meanwhile = b.meanwhile } = cc in parts
+        let parts : record {
+          lower = a.lower;
+          inverted = a.inverted;
+          stalled = a.stalled;
+          meanwhile = a.meanwhile;
+        }
+        ≡ record {
+          lower = b.lower;
+          inverted = b.inverted;
+          stalled = b.stalled;
+          meanwhile = b.meanwhile;
+        } =
+        cc in parts

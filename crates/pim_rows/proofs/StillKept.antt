@@ -1,7 +1,8 @@
 -- What is still kept of the waits that last, and what was written of one.
-use Rattle.std.proofs.Common.{◌≡◌, ◌≢◌, ℕ, true, List, ◌++◌, sym, ◌∙◌, ap, subst, is_some, Option, Some, None, unwrap_or, if◌then◌else◌, cond, [], refl, inl, inr}
+use Rattle.std.proofs.Common.{◌≡◌, ◌≢◌, ℕ, true, List, ◌++◌, sym, ◌∙◌, ap, subst, Option}
+use Rattle.std.proofs.Common.{Some, None, unwrap_or, if◌then◌else◌, cond, [], inl, inr}
 use Rattle.std.proofs.lemmas.Bool.Decides.{eqb_tells}
-use Rattle.std.specs.Prelude.{nat_lt, option_map}
+use Rattle.std.specs.Prelude.{nat_lt}
 use Rattle.pim_base.specs.Lists.{nth}
 use Rattle.pim_rows.specs.Moments.{Moment, now, began}
 use Rattle.pim_rows.specs.Standing.{waits}
@@ -11,11 +12,10 @@ use Rattle.pim_rows.specs.Rows.{wait_rows, lasting_wait, text_of}
 use Rattle.pim_rows.specs.Puts.{Puts}
 use Rattle.pim_rows.proofs.Appended.{puts_wait}
 
-pub is_some-option_map : {X Y : Type 0} (f : X → Y) (o : Option X) → is_some o ≡ is_some (option_map f o)
-is_some-option_map f None = refl
-is_some-option_map f (Some x) = refl
-
-pub kept_here : {X : Type 0} (o : Option (Option X)) (x : X) → Some x ≡ unwrap_or o None → o ≡ Some (Some x)
+pub kept_here :
+    {X : Type 0} (o : Option (Option X)) (x : X)
+    → Some x ≡ unwrap_or o None
+    → o ≡ Some (Some x)
 kept_here None x e = cc
 kept_here (Some o) x e = ap Some (sym e)
 
@@ -30,7 +30,8 @@ pub left_after :
 left_after {X} xs ys n t x gone others e =
     elim (eqb_tells t n) [
       | inl (_, same) ↦
-          let there : unwrap_or (nth ys n) None ≡ Some x = ap (λ k. unwrap_or (nth ys k) None) (sym same) ∙ ap (λ o. unwrap_or o None) e in
+          let there : unwrap_or (nth ys n) None ≡ Some x =
+          ap (λ k. unwrap_or (nth ys k) None) (sym same) ∙ ap (λ o. unwrap_or o None) e in
           absurd (some_isnt_none x (sym there ∙ gone))
       | inr (_, ne) ↦ sym (others t ne) ∙ e
     ]
@@ -43,6 +44,9 @@ pub puts_lasting :
     → Puts (lasting_wait ms t) o o1 1 k
 puts_lasting ms t s times o o1 k lasts s_is times_is text k_is =
     let rows : wait_rows s ms 0 times ≡ lasting_wait ms t =
-    ap (λ s. wait_rows s ms 0 times) s_is ∙ ap (wait_rows (wait_start t (began (waits t) ms)) ms 0) times_is
-    ∙ ap (λ b. if b then wait_rows (wait_start t (began (waits t) ms)) ms 0 (tally t ms) else []) lasts in
-    subst (λ rows. Puts rows o o1 1 k) rows (subst (λ k. Puts (wait_rows s ms 0 times) o o1 1 k) (sym k_is) (puts_wait s ms 0 times o o1 text))
+    ap (λ s. wait_rows s ms 0 times) s_is
+    ∙ ap (wait_rows (wait_start t (began (waits t) ms)) ms 0) times_is
+    ∙ ap (λ b. if b
+    then wait_rows (wait_start t (began (waits t) ms)) ms 0 (tally t ms) else []) lasts in
+    subst (λ rows. Puts rows o o1 1 k) rows (subst
+    (λ k. Puts (wait_rows s ms 0 times) o o1 1 k) (sym k_is) (puts_wait s ms 0 times o o1 text))

@@ -9,7 +9,9 @@ if-if : (b : Bool) (x m n : ℕ) →
 if-if true x m n = omega arith
 if-if false x m n = omega arith
 
-pub with_time-with_time : (s : Standing) (a b : ℕ) (t : Tally) → with_time s a (with_time s b t) ≡ with_time s (b + a) t
+pub with_time-with_time :
+    (s : Standing) (a b : ℕ) (t : Tally)
+    → with_time s a (with_time s b t) ≡ with_time s (b + a) t
 with_time-with_time s a b t =
     let l = if-if s.lower t.lower b a in
     let i = add-add s.inverted a b t.inverted in
@@ -28,14 +30,23 @@ with_time-zero s t =
     let r = add-zero_time s.stalled t.stalled in
     let m = add-zero_time s.meanwhile t.meanwhile in
     let same : with_time s 0 t
-    ≡ record { lower = t.lower; inverted = t.inverted; stalled = t.stalled; meanwhile = t.meanwhile } = cc in
+    ≡ record {
+      lower = t.lower;
+      inverted = t.inverted;
+      stalled = t.stalled;
+      meanwhile = t.meanwhile;
+    } =
+    cc in
     same
 
 if-le : (b : Bool) (x n : ℕ) → x + (if b then n else 0) ≤ x + n
 if-le true x n = omega arith
 if-le false x n = omega arith
 
-pub IsWithin-with_time : (s : Standing) (time old : ℕ) (t : Tally) → IsWithin old t → IsWithin (old + time) (with_time s time t)
+pub IsWithin-with_time :
+    (s : Standing) (time old : ℕ) (t : Tally)
+    → IsWithin old t
+    → IsWithin (old + time) (with_time s time t)
 IsWithin-with_time s time old t within = record {
   lower = omega (arith, within.lower, if-le s.lower t.lower time);
   inverted = omega (arith, within.inverted, total-add s.inverted time t.inverted);

@@ -1,5 +1,6 @@
 -- The times of a tally are sums of stretches.
-use Rattle.std.proofs.Common.{◌≡◌, ◌∙◌, ℕ, ◌+◌, Bool, true, false, refl, sym, ap, Option, Some, None, List, [], ◌∷◌, is_some, if◌then◌else◌}
+use Rattle.std.proofs.Common.{◌≡◌, ◌∙◌, ℕ, ◌+◌, Bool, true, false, refl, sym, ap, Option, Some}
+use Rattle.std.proofs.Common.{None, List, [], ◌∷◌, is_some, if◌then◌else◌}
 use Rattle.std.specs.Option.{option_and_then, option_map}
 use Rattle.std.proofs.lemmas.Bool.{cond-true, cond-false}
 use Rattle.pim_waits.specs.Waiting.{runner}
@@ -10,17 +11,15 @@ use Rattle.pim_rows.specs.Tables.{total}
 use Rattle.pim_rows.specs.Tallies.{Tally, tally, with_time, no_tally}
 use Rattle.pim_rows.specs.Laws.{is_inverted, is_stalled, has_meanwhile, SumsLaw}
 use Rattle.pim_rows.proofs.Changes.{total-add_if}
-
-is_some-option_map : {A B : Type 0} (f : A → B) (o : Option A) → is_some (option_map f o) ≡ is_some o
-is_some-option_map f None = refl
-is_some-option_map f (Some x) = refl
+use Rattle.pim_world.proofs.Fronts.{is_some-option_map}
 
 is_some-and_then_map : {A B C : Type 0} (f : A → Option B) (g : A → B → C) (o : Option A) →
     is_some (option_and_then (λ a. option_map (g a) (f a)) o) ≡ is_some (option_and_then f o)
 is_some-and_then_map f g None = refl
 is_some-and_then_map f g (Some a) = is_some-option_map (g a) (f a)
 
--- A measure of a tally that starts at 0, and grows by each time in which this held, is the sum of these.
+-- A measure of a tally that starts at 0, and grows by each time in which this held, is the sum of
+-- these.
 sum_of_tally : (measure : Tally → ℕ) (holds : World → Bool) (t : ℕ) →
     measure no_tally ≡ 0 →
     ((w : World) (n : ℕ) (times : Tally) →
@@ -48,14 +47,17 @@ sums_law t ms = record {
   inverted =
       sum_of_tally (λ times. total times.inverted) (is_inverted t) t refl
       (λ w n times. total-add_if _ n times.inverted
-      ∙ ap (λ k. total times.inverted + k) (if-same _ _ n (is_some-option_map _ (inverted_by w t)))) ms;
+      ∙ ap (λ k. total times.inverted + k) (if-same _ _ n (is_some-option_map _ (inverted_by w t))))
+      ms;
   stalled =
       sum_of_tally (λ times. total times.stalled) (is_stalled t) t refl
       (λ w n times. total-add_if _ n times.stalled
-      ∙ ap (λ k. total times.stalled + k) (if-same _ _ n (is_some-and_then_map (blocked_at w) _ (runner w.state t)))) ms;
+      ∙ ap (λ k. total times.stalled + k)
+      (if-same _ _ n (is_some-and_then_map (blocked_at w) _ (runner w.state t)))) ms;
   meanwhile =
       sum_of_tally (λ times. total times.meanwhile) (has_meanwhile t) t refl
       (λ w n times. total-add_if _ n times.meanwhile
       ∙ ap (λ k. total times.meanwhile + k)
-      (if-same _ _ n (is_some-option_map _ (option_and_then (meanwhile_of w t) (inverted_by w t))))) ms;
+      (if-same _ _ n (is_some-option_map _ (option_and_then (meanwhile_of w t) (inverted_by w t)))))
+      ms;
 }

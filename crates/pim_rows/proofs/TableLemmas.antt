@@ -1,7 +1,6 @@
 -- What `change` does to a table in ascending order is what an insert does to the entries of a map.
-use Rattle.std.proofs.Common.{◌≡◌, ℕ, ◌<◌, Ordering, [], ◌∷◌, refl, ap, ◌∙◌, arith}
+use Rattle.std.proofs.Common.{◌≡◌, Ordering, [], ◌∷◌, refl, ap, ◌∙◌, arith}
 use Rattle.std.specs.Prelude.{true, false, Option, Some, None}
-use Rattle.std.specs.Ordering.{nat_cmp}
 use Rattle.std.specs.declared.cmp.Ordering.TheVariants.{Less, Equal, Greater}
 use Rattle.std.specs.BTreeMap.{insert_entry, is_at}
 use Rattle.std.specs.List.Sorted.{IsStrictlySortedBy}
@@ -18,18 +17,8 @@ use Rattle.pim_rows.specs.Tables.{Table, same_key, precedes, change}
 
 key_total : IsTotalOrder key_cmp
 key_total =
-    then_total (then_total (on_total (λ k. k.0) nat_cmp_total) (on_total (λ k. k.1) nat_cmp_total)) (on_total (λ k. k.2) nat_cmp_total)
-
--- ---- numbers
-
-cmp_less : (a b : ℕ) → a < b → nat_cmp a b ≡ Less
-cmp_less a b h = grind (arith, nat_tests)
-
-cmp_equal : (a : ℕ) → nat_cmp a a ≡ Equal
-cmp_equal a = grind (arith, nat_tests)
-
-cmp_greater : (a b : ℕ) → b < a → nat_cmp a b ≡ Greater
-cmp_greater a b h = grind (arith, nat_tests)
+    then_total (then_total (on_total (λ k. k.0) nat_cmp_total) (on_total (λ k. k.1) nat_cmp_total))
+    (on_total (λ k. k.2) nat_cmp_total)
 
 -- ---- keys
 
@@ -63,12 +52,14 @@ changed_head : {V : Type 0} (k : Key) (by : Option V → V) (row : Key × V) (ro
     → IsStrictlySortedBy key_cmp (keys_of (row ∷ rows))
     → insert_entry key_cmp rows k (by (lookup (is_at (key_cmp k)) rows)) ≡ change k by rows
     → (o : Ordering) → key_cmp k row.0 ≡ o
-    → insert_entry key_cmp (row ∷ rows) k (by (lookup (is_at (key_cmp k)) (row ∷ rows))) ≡ change k by (row ∷ rows)
+    → insert_entry key_cmp (row ∷ rows) k (by (lookup (is_at (key_cmp k)) (row ∷ rows)))
+    ≡ change k by (row ∷ rows)
 changed_head k by row rows sorted tail Less e =
     let none : lookup (is_at (key_cmp k)) rows ≡ None = simp e at (no_lookup k row rows sorted e) in
     simp (e, none, other_if_less row.0 k e, precedes_if_less row.0 k e)
 changed_head k by row rows sorted tail Equal e =
-    simp (e, same_if_equal row.0 k e) (ap (λ j. (j, by (Some row.1)) ∷ rows) (key_if_equal row.0 k e))
+    simp (e, same_if_equal row.0 k e)
+    (ap (λ j. (j, by (Some row.1)) ∷ rows) (key_if_equal row.0 k e))
 changed_head k by row rows sorted tail Greater e =
     simp (e, other_if_greater row.0 k e, follows_if_greater row.0 k e) (ap (λ t. row ∷ t) tail)
 
@@ -77,11 +68,13 @@ insert_entry-by : {V : Type 0} (k : Key) (by : Option V → V) (rows : Table V)
     → insert_entry key_cmp rows k (by (lookup (is_at (key_cmp k)) rows)) ≡ change k by rows
 insert_entry-by k by [] sorted = refl
 insert_entry-by k by (row ∷ rows) sorted =
-    changed_head k by row rows sorted (insert_entry-by k by rows (sorted_tail key_cmp row.0 (keys_of rows) sorted))
+    changed_head k by row rows sorted
+    (insert_entry-by k by rows (sorted_tail key_cmp row.0 (keys_of rows) sorted))
     (key_cmp k row.0) refl
 
 -- what a key had was read, changed and put back
-pub put_back : {V : Type 0} (k : Key) (by : Option V → V) (had : Option V) (v : V) (old new : Table V)
+pub put_back : {V : Type 0}
+    (k : Key) (by : Option V → V) (had : Option V) (v : V) (old new : Table V)
     → IsStrictlySortedBy key_cmp (keys_of old)
     → had ≡ lookup (is_at (key_cmp k)) old
     → v ≡ by had

@@ -1,6 +1,6 @@
 -- The lines of a valid text, one after another.
-use Rattle.std.proofs.Common.{◌≡◌, ℕ, length, arith, List, [], ◌∷◌, Bool, true, false, if◌then◌else◌, ◌==◌, refl, sym, ap, ◌∙◌}
-use Rattle.std.proofs.Common.{Option, Some, None, is_some}
+use Rattle.std.proofs.Common.{◌≡◌, ℕ, length, arith, List, [], ◌∷◌, Bool, true, false}
+use Rattle.std.proofs.Common.{if◌then◌else◌, ◌==◌, refl, sym, ap, ◌∙◌, Option, Some, None, is_some}
 use Rattle.std.specs.List.{fold}
 use Rattle.std.specs.Option.{option_map}
 use Rattle.pim_fact_lines.specs.declared.line.Line.{Line}
@@ -13,7 +13,8 @@ use Rattle.pim_world.specs.Texts.{lines_after, lines_in, IsText, Says}
 use Rattle.pim_rows.specs.Moments.{Moment, now, first_moments, followed_by}
 use Rattle.pim_rows.specs.Rows.{moments_of, status_of}
 
--- Text `all` says `lines`; `ms` are the moments so far, after which `rest` is left, which says `more`.
+-- Text `all` says `lines`; `ms` are the moments so far, after which `rest` is left, which says
+-- `more`.
 pub record Underway (all rest : List (List ℕ)) (ms : List Moment) : Type 0 where
   pub lines : List Line
   pub more : List Line
@@ -36,7 +37,11 @@ starts all first rest e valid = found (lines_in all) refl valid
     after_header false lines is = cc
     after_header true lines is = is
 
-    found : (o : Option (List Line)) → lines_in all ≡ o → is_some o ≡ true → Underway all rest first_moments
+    found :
+        (o : Option (List Line))
+        → lines_in all ≡ o
+        → is_some o ≡ true
+        → Underway all rest first_moments
     found None is some = cc
     found (Some lines) is some = record {
       lines = lines;
@@ -58,7 +63,8 @@ pub next :
     → left ≡ bytes ∷ rest
     → Underway all left ms
     → Next all rest ms bytes
-next {all} {left} {ms} bytes rest e way = spelled (line_of bytes) refl (ap (lines_after (now ms)) (sym e) ∙ way.left)
+next {all} {left} {ms} bytes rest e way =
+    spelled (line_of bytes) refl (ap (lines_after (now ms)) (sym e) ∙ way.left)
   where
     followed :
         (line : Line) → line_of bytes ≡ Some line → may_follow (now ms) line ≡ true
@@ -75,18 +81,22 @@ next {all} {left} {ms} bytes rest e way = spelled (line_of bytes) refl (ap (line
         more = more;
         says = way.says;
         left = tail;
-        whole = let same : line ∷ more ≡ way.more = cc in ap (λ ls. fold followed_by ms ls) same ∙ way.whole;
+        whole =
+            let same : line ∷ more ≡ way.more =
+            cc in ap (λ ls. fold followed_by ms ls) same ∙ way.whole;
       };
     }
 
     allowed :
         (line : Line) → line_of bytes ≡ Some line
         → (b : Bool) → may_follow (now ms) line ≡ b
-        → given (if b then Some line else None) (λ l. option_map (λ more. l ∷ more) (lines_after (after (now ms) l) rest))
+        → given (if b then Some line else None)
+        (λ l. option_map (λ more. l ∷ more) (lines_after (after (now ms) l) rest))
         ≡ Some way.more
         → Next all rest ms bytes
     allowed line is false may e = cc
-    allowed line is true may e = followed line is may (lines_after (after (now ms) line) rest) refl e
+    allowed line is true may e =
+        followed line is may (lines_after (after (now ms) line) rest) refl e
 
     spelled :
         (o : Option Line) → line_of bytes ≡ o
@@ -98,7 +108,9 @@ next {all} {left} {ms} bytes rest e way = spelled (line_of bytes) refl (ap (line
     spelled (Some line) is e = allowed line is (may_follow (now ms) line) refl e
 
 -- at the end these are the moments of the text
-ends : {all : List (List ℕ)} {ms : List Moment} (way : Underway all [] ms) → ms ≡ moments_of way.lines
+ends :
+    {all : List (List ℕ)} {ms : List Moment} (way : Underway all [] ms)
+    → ms ≡ moments_of way.lines
 ends {all} {ms} way =
     let none : [] ≡ way.more = cc (way.left) in ap (λ ls. fold followed_by ms ls) none ∙ way.whole
 

@@ -5,11 +5,16 @@ use Rattle.std.proofs.lemmas.List.Concat.{flat_map-append}
 use Rattle.pim_rows.specs.Moments.{Moment}
 use Rattle.pim_rows.specs.Begun.{WaitStart}
 use Rattle.pim_rows.specs.Tallies.{Tally}
-use Rattle.pim_rows.specs.Rows.{wait_row, wait_rows, inverted_row, stalled_row, meanwhile_row, text_of}
+use Rattle.pim_rows.specs.Rows.{wait_row, wait_rows, inverted_row, stalled_row, meanwhile_row}
+use Rattle.pim_rows.specs.Rows.{text_of}
 use Rattle.pim_rows.specs.declared.row.Word.TheVariants as words
 use Rattle.pim_rows.specs.Words.{Row, row, row_text}
 
-pub if_ok : {T E : Type 0} {P Q : T → Type 0} (r : Result T E) → ((x : T) → P x → Q x) → IfOk r P → IfOk r Q
+pub if_ok :
+    {T E : Type 0} {P Q : T → Type 0} (r : Result T E)
+    → ((x : T) → P x → Q x)
+    → IfOk r P
+    → IfOk r Q
 if_ok (Ok x) f p = f x p
 if_ok (Err e) f p = p
 
@@ -22,11 +27,13 @@ joined o r a b c =
     ∙ append_assoc (o ++ row_text r) (text_of a) (text_of b ++ text_of c)
     ∙ append_assoc o (row_text r) (text_of a ++ (text_of b ++ text_of c))
     ∙ ap (λ l. o ++ (row_text r ++ l))
-    (sym (append_assoc (text_of a) (text_of b) (text_of c)) ∙ ap (λ l. l ++ text_of c) (sym (flat_map-append row_text a b))
+    (sym (append_assoc (text_of a) (text_of b) (text_of c))
+    ∙ ap (λ l. l ++ text_of c) (sym (flat_map-append row_text a b))
     ∙ sym (flat_map-append row_text (a ++ b) c))
 
 pub wait_text :
-    (s : WaitStart) (ms : List Moment) (until : ℕ) (times : Tally) (numbers o o1 o2 o3 o4 : List ℕ) (line : ℕ)
+    (s : WaitStart)
+    (ms : List Moment) (until : ℕ) (times : Tally) (numbers o o1 o2 o3 o4 : List ℕ) (line : ℕ)
     → numbers ≡ (wait_row s ms until times).numbers
     → s.line ≡ line
     → o1 ≡ o ++ row_text (row words.Wait numbers)
@@ -45,4 +52,5 @@ wait_text s ms until times numbers o o1 o2 o3 o4 line n same a b c d =
     ∙ joined o (wait_row s ms until times) inverted stalled meanwhile
     ∙ ap
     (λ line. o ++ text_of (wait_row s ms until times ∷ (map (inverted_row line) times.inverted
-    ++ map (stalled_row line) times.stalled ++ map (meanwhile_row line) times.meanwhile))) (sym same)
+    ++ map (stalled_row line) times.stalled ++ map (meanwhile_row line) times.meanwhile)))
+    (sym same)

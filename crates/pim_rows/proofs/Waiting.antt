@@ -1,5 +1,6 @@
 -- A wait that lasts.
-use Rattle.std.proofs.Common.{◌≡◌, ◌∙◌, ℕ, ◌+◌, ◌-◌, ◌≤◌, true, false, sym, ap, subst, arith, List, ◌∷◌}
+use Rattle.std.proofs.Common.{◌≡◌, ◌∙◌, ℕ, ◌+◌, ◌-◌, ◌≤◌, true, false, sym, ap, subst, arith, List}
+use Rattle.std.proofs.Common.{◌∷◌}
 use Rattle.std.proofs.lemmas.Bool.{cond-true, cond-false}
 use Rattle.pim_rows.specs.Moments.{Moment, now, clock, stretch}
 use Rattle.pim_rows.specs.Standing.{Standing, standing, waits}
@@ -8,7 +9,11 @@ use Rattle.pim_rows.specs.OpenWaits.{IsUntil, Follows, ShowsWait}
 use Rattle.pim_rows.specs.declared.open_wait.OpenWait.{OpenWait}
 use Rattle.pim_rows.proofs.Summed.{with_time-with_time, with_time-zero, IsWithin-with_time}
 
-pub IsUntil-later : (w : OpenWait) (clock later : ℕ) → clock ≤ later → IsUntil clock w → IsUntil later w
+pub IsUntil-later :
+    (w : OpenWait) (clock later : ℕ)
+    → clock ≤ later
+    → IsUntil clock w
+    → IsUntil later w
 IsUntil-later w clock later le until =
     let since = until.since in record { since = omega arith; within = until.within }
 
@@ -27,7 +32,8 @@ tally-followed w t ms m follows later =
 
 -- What is kept needs no change by a line after which the same holds of the thread.
 pub Follows-same : (w : OpenWait) (t : ℕ) (ms : List Moment) (m : Moment) →
-    Follows w t ms → clock ms ≤ m.world.clock → waits t m.world ≡ true → standing m.world t ≡ standing (now ms) t →
+    Follows w t ms → clock ms ≤ m.world.clock
+    → waits t m.world ≡ true → standing m.world t ≡ standing (now ms) t →
     Follows w t (m ∷ ms)
 Follows-same w t ms m follows later lasts same = record {
   lasts = lasts;
@@ -37,7 +43,11 @@ Follows-same w t ms m follows later lasts same = record {
 }
 
 -- the times until now are within the clock
-pub within_added : (w : OpenWait) (times : Tally) (clock : ℕ) → times ≡ with_time w.standing (clock - w.since) w.tally → IsUntil clock w →
+pub within_added :
+    (w : OpenWait) (times : Tally) (clock : ℕ)
+    → times ≡ with_time w.standing (clock - w.since) w.tally
+    → IsUntil clock w
+    →
     IsWithin clock times
 within_added w times clock added until =
     let since = until.since in
@@ -46,7 +56,10 @@ within_added w times clock added until =
     (IsWithin-with_time w.standing (clock - w.since) w.since w.tally until.within))
 
 -- another standing takes the place of the last one
-pub Follows-other : (w : OpenWait) (times : Tally) (t : ℕ) (ms : List Moment) (m : Moment) (clock' : ℕ) (s : Standing) →
+pub Follows-other :
+    (w : OpenWait)
+    (times : Tally) (t : ℕ) (ms : List Moment) (m : Moment) (clock' : ℕ) (s : Standing)
+    →
     times ≡ with_time w.standing (clock' - w.since) w.tally →
     Follows w t ms → clock ms ≤ m.world.clock → ShowsWait m t clock' s →
     Follows (record { since = clock'; standing = s; tally = times }) t (m ∷ ms)
@@ -68,13 +81,17 @@ Follows-other w times t ms m clock' s added follows later shows =
       until = record {
         since = omega arith;
         within =
-            rw added (subst (λ n. IsWithin n (with_time w.standing (clock' - w.since) w.tally)) whole
-            (IsWithin-with_time w.standing (clock' - w.since) w.since w.tally follows.until.within));
+            rw added
+            (subst (λ n. IsWithin n (with_time w.standing (clock' - w.since) w.tally)) whole
+            (IsWithin-with_time w.standing
+            (clock' - w.since) w.since w.tally follows.until.within));
       };
     }
 
 -- a wait that began with the newest line
-pub Follows-new : (t : ℕ) (ms : List Moment) (m : Moment) (clock' : ℕ) (s : Standing) (times : Tally) →
+pub Follows-new :
+    (t : ℕ) (ms : List Moment) (m : Moment) (clock' : ℕ) (s : Standing) (times : Tally)
+    →
     times ≡ no_tally → waits t (now ms) ≡ false → ShowsWait m t clock' s →
     Follows (record { since = clock'; standing = s; tally = times }) t (m ∷ ms)
 Follows-new t ms m clock' s times none before shows =
@@ -90,6 +107,12 @@ Follows-new t ms m clock' s times none before shows =
           ∙ ap (λ n. with_time s n times) no;
       until = record {
         since = omega arith;
-        within = rw none (record { lower = omega arith; inverted = omega arith; stalled = omega arith; meanwhile = omega arith });
+        within =
+            rw none (record {
+              lower = omega arith;
+              inverted = omega arith;
+              stalled = omega arith;
+              meanwhile = omega arith;
+            });
       };
     }

@@ -1,5 +1,6 @@
 -- What is kept of all waits that last.
-use Rattle.std.specs.Prelude.{◌≡◌, ◌≢◌, ℕ, true, false, not, ◌&&◌, List, length, Option, Some, None, unwrap_or, if◌then◌else◌}
+use Rattle.std.specs.Prelude.{◌≡◌, ◌≢◌, ℕ, true, false, not, ◌&&◌, List, length, Option, Some, None}
+use Rattle.std.specs.Prelude.{unwrap_or, if◌then◌else◌}
 use Rattle.std.specs.Option.{option_and_then}
 use Rattle.pim_base.specs.Lists.{nth, contains}
 use Rattle.pim_fact_lines.specs.declared.line.Line.{Line}
@@ -24,7 +25,8 @@ pub record AreOpen (opens : List (Option OpenWait)) (ms : List Moment) : Type 0 
 abbrev pub ended_times : Option ℕ → List Moment → Line → Option Tally
 ended_times thread ms l =
     option_and_then
-    (λ t. if waits t (now ms) && not (waits t (after (now ms) l)) then Some (tally t (followed_by ms l)) else None)
+    (λ t. if waits t (now ms) && not (waits t (after (now ms) l))
+    then Some (tally t (followed_by ms l)) else None)
     thread
 
 -- the times are those of the wait that was kept and has ended at this time, if one was
@@ -63,7 +65,8 @@ GoneOnAt w t (Some old) (Some new) = GoneOn w t old new
 
 -- of each thread that waits, and isn't one of these, the same holds in both worlds
 abbrev pub AreSame : World → World → List ℕ → Type 0
-AreSame w after ts = (t : ℕ) → waits t w ≡ true → contains ts t ≡ false → standing after t ≡ standing w t
+AreSame w after ts =
+    (t : ℕ) → waits t w ≡ true → contains ts t ≡ false → standing after t ≡ standing w t
 
 -- a wait that is kept in a place isn't inverted
 abbrev pub IsCalm : Option (Option OpenWait) → Type 0
@@ -73,9 +76,12 @@ IsCalm x = (o : OpenWait) → x ≡ Some (Some o) → o.standing.inverted ≡ No
 abbrev pub AreInverted : List ℕ → List (Option OpenWait) → Type 0
 AreInverted ts opens = (t : ℕ) → contains ts t ≡ false → IsCalm (nth opens t)
 
--- of each thread whose wait is kept, and which isn't one of these, it is kept what holds in this world
+-- of each thread whose wait is kept, and which isn't one of these, it is kept what holds in this
+-- world
 abbrev pub AreCurrent : World → List ℕ → List (Option OpenWait) → Type 0
-AreCurrent w ts opens = (t : ℕ) (o : OpenWait) → nth opens t ≡ Some (Some o) → contains ts t ≡ false → o.standing ≡ standing w t
+AreCurrent w ts opens =
+    (t : ℕ) (o : OpenWait)
+    → nth opens t ≡ Some (Some o) → contains ts t ≡ false → o.standing ≡ standing w t
 
 -- the waits of these threads have gone on, and the others are as they were
 pub record SoFar (w : World) (ts : List ℕ) (old new : List (Option OpenWait)) : Type 0 where

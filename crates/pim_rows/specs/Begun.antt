@@ -9,8 +9,9 @@ use Rattle.pim_rows.specs.Moments.{Moment, now, number}
 use Rattle.pim_rows.specs.Standing.{thread_number, mutex_number}
 use Rattle.pim_rows.specs.Episodes.{grant_line, off_time}
 
--- a wait for a mutex: its line, thread and mutex, the clock, what the thread had and got, and of the owner of the mutex its
--- number, its level and the line by which it came to own it; these three are 0 if the mutex was free
+-- a wait for a mutex: its line, thread and mutex, the clock, what the thread had and got, and of
+-- the owner of the mutex its number, its level and the line by which it came to own it; these three
+-- are 0 if the mutex was free
 pub record WaitStart : Type 0 where
   pub line : ℕ
   pub thread : ℕ
@@ -26,7 +27,8 @@ pub record WaitStart : Type 0 where
 abbrev pub awaited : World → ℕ → ℕ
 awaited w t = option_map_or (λ (x : Wait). x.mutex) (wait_of w.state t) 0
 
--- the wait of t, which began with the line of this number; `since` is the line by which the owner of a mutex came to own it
+-- the wait of t, which began with the line of this number; `since` is the line by which the owner
+-- of a mutex came to own it
 abbrev pub wait_at : ℕ → ℕ → (ℕ → ℕ) → World → WaitStart
 wait_at t n since w =
     let m = awaited w t in let o = owner_of w.state m in
@@ -68,7 +70,8 @@ block_at t n w = record {
 abbrev pub block : ℕ → List Moment → Block
 block t ms = block_at t (number ms) (now ms)
 
--- the kernel runs a thread at another level than it gets: the line and the thread, the clock, and the two levels
+-- the kernel runs a thread at another level than it gets: the line and the thread, the clock, and
+-- the two levels
 pub record RunStart : Type 0 where
   pub line : ℕ
   pub thread : ℕ
@@ -85,7 +88,8 @@ run_start_at t n both w =
 abbrev pub run_start : ℕ → ℕ × ℕ → List Moment → RunStart
 run_start t both ms = run_start_at t (number ms) both (now ms)
 
--- an ownership: the place of the owner, its number, its level and for how long it had been off a CPU; the line, and the clock
+-- an ownership: the place of the owner, its number, its level and for how long it had been off a
+-- CPU; the line, and the clock
 pub record Grant : Type 0 where
   pub owner : ℕ
   pub thread : ℕ
@@ -98,11 +102,19 @@ pub record Grant : Type 0 where
 abbrev pub owner_or_none : World → ℕ → ℕ
 owner_or_none w m = unwrap_or (owner_of w.state m) 0
 
--- the ownership of m, which began with the line of this number; for so long its owner had been off a CPU
+-- the ownership of m, which began with the line of this number; for so long its owner had been off
+-- a CPU
 abbrev pub grant_at : ℕ → ℕ → ℕ → World → Grant
 grant_at m n off w =
     let t = owner_or_none w m in
-    record { owner = t; thread = thread_number w t; level = base_of w.state t; off = off; line = n; from = w.clock }
+    record {
+      owner = t;
+      thread = thread_number w t;
+      level = base_of w.state t;
+      off = off;
+      line = n;
+      from = w.clock;
+    }
 
 -- m came to be owned in these moments
 abbrev pub grant : ℕ → List Moment → Grant

@@ -11,7 +11,8 @@ use Rattle.pim_rows.specs.Moments.{now}
 use Rattle.pim_rows.specs.Standing.{thread_number}
 use Rattle.pim_rows.specs.Rows.{before, is_first_of_cycle, moments_of}
 
--- each thread waits for a mutex that the next one owns, and the last one for a mutex of the thread `first`
+-- each thread waits for a mutex that the next one owns, and the last one for a mutex of the thread
+-- `first`
 abbrev pub LeadsBack : State → ℕ → List ℕ → Type 0
 LeadsBack S first [] = ⊥
 LeadsBack S first (t ∷ []) = blocker S t ≡ Some first
@@ -26,7 +27,8 @@ pub record IsDeadlock (w : World) (t : ℕ) : Type 0 where
   pub back : LeadsBack w.state t (row_threads w t)
   pub least : (u : ℕ) → contains (row_threads w t) u ≡ true → thread_number w t ≤ thread_number w u
 
--- The rows are deadlocks, and each thread that is again on its own way, after itself, is in exactly one of them.
+-- The rows are deadlocks, and each thread that is again on its own way, after itself, is in exactly
+-- one of them.
 pub record AreDeadlocks (w : World) : Type 0 where
   pub each : (t : ℕ) → is_first_of_cycle w t ≡ true → IsDeadlock w t
   pub all :
@@ -42,4 +44,6 @@ pub record AreDeadlocks (w : World) : Type 0 where
       → t ≡ s
 
 abbrev pub DeadlockLaw : Type 0
-DeadlockLaw = (bytes : List (List ℕ)) (lines : List Line) → Says bytes lines → AreDeadlocks (now (moments_of lines))
+DeadlockLaw =
+    (bytes : List (List ℕ)) (lines : List Line)
+    → Says bytes lines → AreDeadlocks (now (moments_of lines))

@@ -1,5 +1,6 @@
 -- The rows of the wait and of the block that a line ends.
-use Rattle.std.specs.Prelude.{◌≡◌, ℕ, true, not, ◌&&◌, nat_lt, count_by, List, [], ◌++◌, Option, Some, None, if◌then◌else◌}
+use Rattle.std.specs.Prelude.{◌≡◌, ℕ, true, not, ◌&&◌, nat_lt, count_by, List, [], ◌++◌, Option}
+use Rattle.std.specs.Prelude.{Some, None, if◌then◌else◌}
 use Rattle.pim_fact_lines.specs.declared.line.Line.{Line}
 use Rattle.pim_world.specs.After.{after}
 use Rattle.pim_rows.specs.Moments.{Moment, now, followed_by}
@@ -13,7 +14,8 @@ use Rattle.pim_rows.specs.declared.ended_rows.EndedWaits.{EndedWaits}
 -- the tally of the wait of t if the line after these moments ends it
 abbrev pub ended_tally : ℕ → List Moment → Line → Option Tally
 ended_tally t ms l =
-    if waits t (now ms) && not (waits t (after (now ms) l)) then Some (tally t (followed_by ms l)) else None
+    if waits t (now ms) && not (waits t (after (now ms) l))
+    then Some (tally t (followed_by ms l)) else None
 
 -- these are the times of the wait that the line after these moments ends, if it has a thread
 abbrev pub HasEnded : Option Tally → Option ℕ → List Moment → Line → Type 0
@@ -22,7 +24,8 @@ HasEnded times thread ms l = (t : ℕ) → thread ≡ Some t → times ≡ ended
 -- the rows of the wait and of the block that the line after these moments ends
 abbrev pub ended_of : List Moment → Line → List Row
 ended_of ms l =
-    of_fact [] (λ t what. granted (followed_by ms l) ms t ++ resumed (followed_by ms l) ms t what) (now ms) l
+    of_fact [] (λ t what. granted (followed_by ms l) ms t ++ resumed (followed_by ms l) ms t what)
+    (now ms) l
 
 -- so many of the rows are `wait` rows, and so many of these have time inverted
 pub record AreCounts (counts : EndedWaits) (rows : List Row) : Type 0 where

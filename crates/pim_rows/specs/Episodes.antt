@@ -1,5 +1,7 @@
--- What lasts for a while: ownerships, waits at objects, and threads that the kernel runs at another level.
-use Rattle.std.specs.Prelude.{ℕ, ◌+◌, ◌==◌, Bool, false, ◌&&◌, List, [], ◌∷◌, Option, Some, None, is_some, if◌then◌else◌}
+-- What lasts for a while: ownerships, waits at objects, and threads that the kernel runs at another
+-- level.
+use Rattle.std.specs.Prelude.{ℕ, ◌+◌, ◌==◌, Bool, false, ◌&&◌, List, [], ◌∷◌, Option, Some, None}
+use Rattle.std.specs.Prelude.{is_some, if◌then◌else◌}
 use Rattle.std.specs.Option.{option_and_then, option_map_or}
 use Rattle.pim_base.specs.State.{owner_of}
 use Rattle.pim_waits.specs.Waiting.{gets}

@@ -75,8 +75,9 @@ mutex_of w line = of_fact None (λ t what. locked_mutex w what) w line
 
 -- ---- sections
 
--- what a table has of the sections of a thread at a mutex at one level: how many, the longest of them and the line where the
--- first one of that length began, and the most time for which the thread wasn't off a CPU
+-- what a table has of the sections of a thread at a mutex at one level: how many, the longest of
+-- them and the line where the first one of that length began, and the most time for which the
+-- thread wasn't off a CPU
 pub record Sections : Type 0 where
   pub count : ℕ
   pub longest : ℕ
@@ -109,7 +110,8 @@ section g ms = record {
   used = clock ms - g.from - (off_time g.owner ms - g.off);
 }
 
--- the sections with the one at m that began in these moments, and lasts in the others or ended with the newest of them
+-- the sections with the one at m that began in these moments, and lasts in the others or ended with
+-- the newest of them
 abbrev pub put_section : ℕ → List Moment → List Moment → Table Sections → Table Sections
 put_section m start ms rows =
     let g = grant m start in
@@ -118,7 +120,8 @@ put_section m start ms rows =
 -- the sections with the one at m that the newest line, after the moments before, ended
 abbrev pub end_section : List Moment → List Moment → Table Sections → ℕ → Table Sections
 end_section ms before rows m =
-    if is_owned m (now before) && not (is_owned m (now ms)) then put_section m (began (is_owned m) before) ms rows
+    if is_owned m (now before) && not (is_owned m (now ms))
+    then put_section m (began (is_owned m) before) ms rows
     else rows
 
 -- the sections that have ended
@@ -138,8 +141,8 @@ all_sections ms = fold (lasting_section ms) (sections ms) (mutex_numbers (now ms
 
 -- ---- requests within sections
 
--- what a table has of the requests of a thread for one mutex while it owned another: how many, and of the first one since
--- which line it owned that, and its own
+-- what a table has of the requests of a thread for one mutex while it owned another: how many, and
+-- of the first one since which line it owned that, and its own
 pub record Nests : Type 0 where
   pub count : ℕ
   pub taken : ℕ
@@ -149,7 +152,8 @@ abbrev pub with_nest : ℕ → ℕ → Option Nests → Nests
 with_nest taken line None = record { count = 1; taken = taken; line = line }
 with_nest taken line (Some all) = record all { count = all.count + 1 }
 
--- the requests with the one of t for m by the line after these, within its section at the outer mutex
+-- the requests with the one of t for m by the line after these, within its section at the outer
+-- mutex
 abbrev pub put_nest : List Moment → ℕ → ℕ → Table Nests → ℕ → Table Nests
 put_nest ms t m rows outer =
     change
@@ -167,5 +171,6 @@ abbrev pub nests : List Moment → Table Nests
 nests [] = []
 nests (m ∷ ms) =
     of_fact (nests ms)
-    (λ t what. option_map_or (λ x. put_nests ms t x (nests ms)) (asked_mutex (now ms) t what) (nests ms))
+    (λ t what.
+    option_map_or (λ x. put_nests ms t x (nests ms)) (asked_mutex (now ms) t what) (nests ms))
     (now ms) m.line

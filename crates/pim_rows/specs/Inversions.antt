@@ -15,7 +15,10 @@ use Rattle.pim_rows.specs.Laws.{is_inverted}
 -- Laws 2, 3, 4 and 5 of a thread t. `inverted_by w t` is its runner if t is inverted.
 pub record HasInversionLaws (w : World) (t : ℕ) : Type 0 where
   pub passing : WayPassesOn w.state t → inverted_by w t ≡ None
-  pub blamed : (r : ℕ) → inverted_by w t ≡ Some r → (m : ℕ) × (blame w.state t ≡ Some m) × IsToBlame w.state t m
+  pub blamed :
+      (r : ℕ)
+      → inverted_by w t ≡ Some r
+      → (m : ℕ) × (blame w.state t ≡ Some m) × IsToBlame w.state t m
   pub idle :
       (m u : ℕ)
       → IsIdleOwner w.state m u
@@ -23,7 +26,11 @@ pub record HasInversionLaws (w : World) (t : ℕ) : Type 0 where
       → awaited_of w.state t ≡ Some m
       → IsTrue (is_inverted t w) ↔ (base_of w.state u < gets w.state t)
   pub runs : (r : ℕ) → runner w.state t ≡ Some r → IsRunner w.state t r
-  pub meanwhile : (r u : ℕ) → inverted_by w t ≡ Some r → meanwhile_of w t r ≡ Some u → (u ≢ t) × (u ≢ r)
+  pub meanwhile :
+      (r u : ℕ)
+      → inverted_by w t ≡ Some r
+      → meanwhile_of w t r ≡ Some u
+      → (u ≢ t) × (u ≢ r)
 
 -- They hold of all threads after each text, and so after each line of one.
 abbrev pub InversionLaw : Type 0

@@ -26,7 +26,8 @@ has_meanwhile t w = is_some (option_and_then (meanwhile_of w t) (inverted_by w t
 abbrev pub waiting_time : ℕ → (World → Bool) → List Moment → ℕ
 waiting_time t holds ms = time (waits t) holds ms
 
--- Each time of a tally is the sum of the stretches in which that held, and the rows of a table add up to one.
+-- Each time of a tally is the sum of the stretches in which that held, and the rows of a table add
+-- up to one.
 pub record AddsUp (t : ℕ) (ms : List Moment) : Type 0 where
   pub lower : (tally t ms).lower ≡ waiting_time t (λ w. is_lower w t) ms
   pub inverted : total (tally t ms).inverted ≡ waiting_time t (is_inverted t) ms
@@ -44,15 +45,18 @@ IsInOrder (m ∷ ms) = (clock ms ≤ m.world.clock) × IsInOrder ms
 abbrev pub OrderLaw : Type 0
 OrderLaw = (ls : List Line) → IsInOrder (moments_of ls)
 
--- A wait is inverted for no longer than its runner has a lower level, and the runner isn't blocked then. Another thread
--- runs in place of the runner for no longer than the wait is inverted.
+-- A wait is inverted for no longer than its runner has a lower level, and the runner isn't blocked
+-- then. Another thread runs in place of the runner for no longer than the wait is inverted.
 pub record IsBounded (lasted : ℕ) (times : Tally) : Type 0 where
   pub meanwhile : total times.meanwhile ≤ total times.inverted
   pub inverted : total times.inverted ≤ times.lower
   pub lower : times.lower ≤ lasted - total times.stalled
   pub stalled : total times.stalled ≤ lasted
 
--- This holds of each wait that lasts, or that the newest line ended, and of the time since it began.
+-- This holds of each wait that lasts, or that the newest line ended, and of the time since it
+-- began.
 abbrev pub BoundsLaw : Type 0
 BoundsLaw =
-    (t : ℕ) (ms : List Moment) → IsInOrder ms → IsBounded (clock ms - clock (began (waits t) ms)) (tally t ms)
+    (t : ℕ) (ms : List Moment)
+    → IsInOrder ms
+    → IsBounded (clock ms - clock (began (waits t) ms)) (tally t ms)

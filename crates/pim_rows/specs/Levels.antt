@@ -10,17 +10,23 @@ use Rattle.pim_rows.specs.Standing.{runs_of}
 use Rattle.pim_rows.specs.Episodes.{run_apart}
 use Rattle.pim_rows.specs.Runs.{AreChanges, change_of, is_runs}
 
--- of each thread it is kept at which level the kernel runs it and what it gets, if these are different
+-- of each thread it is kept at which level the kernel runs it and what it gets, if these are
+-- different
 abbrev pub AreLevels : (ℕ → Option (Option (ℕ × ℕ))) → World → Type 0
 AreLevels kept w = (t : ℕ) → unwrap_or (kept t) None ≡ run_apart w t
 
 -- what is kept with what these changes say
-abbrev pub with_levels : (ℕ → Option (Option (ℕ × ℕ))) → List RunChange → ℕ → Option (Option (ℕ × ℕ))
+abbrev pub with_levels :
+    (ℕ → Option (Option (ℕ × ℕ)))
+    → List RunChange
+    → ℕ
+    → Option (Option (ℕ × ℕ))
 with_levels kept cs = fold (λ kept c. set c.thread (Some c.now) kept) kept cs
 
 -- only of these threads the line may change the levels
 abbrev pub MayChange : World → Line → List ℕ → Type 0
-MayChange w l ts = (cs : List RunChange) → cs ≡ map (change_of w (after w l)) ts → AreChanges w (after w l) ts cs
+MayChange w l ts =
+    (cs : List RunChange) → cs ≡ map (change_of w (after w l)) ts → AreChanges w (after w l) ts cs
 
 -- of no thread a level is known before the line, and the line says none
 abbrev pub IsUnrun : World → Line → Type 0

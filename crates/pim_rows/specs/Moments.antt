@@ -11,7 +11,8 @@ pub record Moment : Type 0 where
   pub line : Line
   pub world : World
 
--- Moments are listed from the newest to the oldest. The oldest is that of line 1, after which nothing is declared.
+-- Moments are listed from the newest to the oldest. The oldest is that of line 1, after which
+-- nothing is declared.
 abbrev pub first_moments : List Moment
 first_moments = record { number = 1; line = lines.Unseen; world = no_world } ∷ []
 
@@ -30,19 +31,21 @@ clock ms = (now ms).clock
 
 -- one line more
 abbrev pub followed_by : List Moment → Line → List Moment
-followed_by ms line = record { number = number ms + 1; line = line; world = after (now ms) line } ∷ ms
+followed_by ms line =
+    record { number = number ms + 1; line = line; world = after (now ms) line } ∷ ms
 
 -- the time from the line before to this one
 abbrev pub stretch : Moment → List Moment → ℕ
 stretch m ms = m.world.clock - clock ms
 
--- The moments as they were when this came to hold, of what holds now: the newest is the one since which it holds.
+-- The moments as they were when this came to hold, of what holds now: the newest is the one since
+-- which it holds.
 abbrev pub began : (World → Bool) → List Moment → List Moment
 began holds [] = []
 began holds (m ∷ ms) = if holds (now ms) then began holds ms else m ∷ ms
 
--- For how long this held, while that lasted which holds now or which the newest line ended: the sum of the stretches of the
--- lines after which it did.
+-- For how long this held, while that lasted which holds now or which the newest line ended: the sum
+-- of the stretches of the lines after which it did.
 abbrev pub time : (World → Bool) → (World → Bool) → List Moment → ℕ
 time lasts holds [] = 0
 time lasts holds (m ∷ ms) =

@@ -1,5 +1,6 @@
 -- For how long each thread has been off a CPU: docs/ROWS.md, 'section'.
-use Rattle.std.specs.Prelude.{◌≡◌, ◌≤◌, ℕ, ◌+◌, ◌-◌, min, Bool, true, false, List, Option, Some, None, unwrap_or, if◌then◌else◌}
+use Rattle.std.specs.Prelude.{◌≡◌, ◌≤◌, ℕ, ◌+◌, ◌-◌, min, Bool, true, false, List, Option, Some}
+use Rattle.std.specs.Prelude.{None, unwrap_or, if◌then◌else◌}
 use Rattle.pim_fact_lines.specs.declared.line.Line.{Line}
 use Rattle.pim_fact_lines.specs.declared.line.Line.TheVariants as lines
 use Rattle.pim_rows.specs.Moments.{Moment, now, clock}
@@ -27,7 +28,8 @@ off_from o clock = record { before = o.before; since = clock }
 abbrev pub off_ended : OffTime → ℕ → OffTime
 off_ended o clock = record { before = off_until o clock; since = o.since }
 
--- At this clock the thread was off for that time, and is off or isn't. No sum of times is more than the clock.
+-- At this clock the thread was off for that time, and is off or isn't. No sum of times is more than
+-- the clock.
 pub record IsOffTime (o : OffTime) (off : Bool) (time clock : ℕ) : Type 0 where
   pub sum : time ≡ o.before + (if off then clock - o.since else 0)
   pub earlier : off ≡ true → o.since ≤ clock
@@ -35,7 +37,8 @@ pub record IsOffTime (o : OffTime) (off : Bool) (time clock : ℕ) : Type 0 wher
 
 -- of each thread it is kept for how long it has been off
 abbrev pub AreOffTimes : (ℕ → Option OffTime) → List Moment → Type 0
-AreOffTimes kept ms = (t : ℕ) → IsOffTime (off_kept kept t) (is_off t (now ms)) (off_time t ms) (clock ms)
+AreOffTimes kept ms =
+    (t : ℕ) → IsOffTime (off_kept kept t) (is_off t (now ms)) (off_time t ms) (clock ms)
 
 -- from this line on nothing is known of what the kernel did so far
 abbrev pub is_lost : Line → Bool

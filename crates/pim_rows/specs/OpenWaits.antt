@@ -10,7 +10,8 @@ pub record IsUntil (clock : ℕ) (w : OpenWait) : Type 0 where
   pub since : w.since ≤ clock
   pub within : IsWithin w.since w.tally
 
--- What is kept is of the wait of t: what holds of t after the newest line, since when, and for how long what held before.
+-- What is kept is of the wait of t: what holds of t after the newest line, since when, and for how
+-- long what held before.
 pub record Follows (w : OpenWait) (t : ℕ) (ms : List Moment) : Type 0 where
   pub lasts : waits t (now ms) ≡ true
   pub current : standing (now ms) t ≡ w.standing
@@ -31,7 +32,8 @@ Begins w clock s =
     → ShowsWait m t clock s
     → Follows w t (m ∷ ms)
 
--- it is of each wait of which the old one was, after one line more, at this time, after which this holds
+-- it is of each wait of which the old one was, after one line more, at this time, after which this
+-- holds
 abbrev pub GoesOn : OpenWait → OpenWait → ℕ → Standing → Type 0
 GoesOn old new clock s =
     (t : ℕ) (ms : List Moment) (m : Moment)

@@ -1,7 +1,7 @@
 -- The rows of a text: docs/ROWS.md, 'Rows' and 'Order'.
-use Rattle.std.specs.Prelude.{ℕ, ◌-◌, ◌==◌, Bool, true, false, not, ◌&&◌, ◌||◌, List, [], ◌∷◌, ◌++◌, length, map}
-use Rattle.std.specs.Prelude.{nat_lt, if◌then◌else◌, drop}
-use Rattle.std.specs.Prelude.{flat_map, count_by, slice_get}
+use Rattle.std.specs.Prelude.{ℕ, ◌-◌, ◌==◌, Bool, true, false, not, ◌&&◌, ◌||◌, List, [], ◌∷◌, ◌++◌}
+use Rattle.std.specs.Prelude.{length, map, nat_lt, if◌then◌else◌, drop, flat_map, count_by}
+use Rattle.std.specs.Prelude.{slice_get}
 use Rattle.std.specs.List.{fold, filter, list_any}
 use Rattle.std.specs.Option.{option_map_or}
 use Rattle.pim_base.specs.Lists.{contains, sort_by}
@@ -28,8 +28,9 @@ use Rattle.pim_rows.specs.Found.{of_fact, Sections, all_sections, Nests, nests}
 abbrev pub wait_row : WaitStart → List Moment → ℕ → Tally → Row
 wait_row s ms until times =
     row words.Wait
-    (s.line ∷ until ∷ s.thread ∷ s.mutex ∷ s.from ∷ (clock ms - s.from) ∷ s.level ∷ s.gets ∷ s.owner ∷ s.owner_level
-    ∷ s.grant ∷ total times.inverted ∷ times.lower ∷ total times.stalled ∷ [])
+    (s.line ∷ until ∷ s.thread ∷ s.mutex ∷ s.from ∷ (clock ms - s.from) ∷ s.level ∷ s.gets
+    ∷ s.owner ∷ s.owner_level ∷ s.grant
+    ∷ total times.inverted ∷ times.lower ∷ total times.stalled ∷ [])
 
 abbrev pub inverted_row : ℕ → Key × ℕ → Row
 inverted_row line x = row words.Inverted (line ∷ x.0.0 ∷ x.0.1 ∷ x.0.2 ∷ x.1 ∷ [])
@@ -59,7 +60,8 @@ ended_numbers w ends.Failed = 3 ∷ 0 ∷ 0 ∷ []
 abbrev pub blocked_row : Block → List Moment → ℕ → Ended → Row
 blocked_row b ms until ended =
     row words.Blocked
-    ((b.line ∷ until ∷ b.thread ∷ b.object ∷ b.from ∷ (clock ms - b.from) ∷ b.level ∷ []) ++ ended_numbers (now ms) ended)
+    ((b.line ∷ until ∷ b.thread ∷ b.object ∷ b.from ∷ (clock ms - b.from) ∷ b.level ∷ [])
+    ++ ended_numbers (now ms) ended)
 
 -- ---- threads that the kernel runs at another level than they get
 
@@ -97,7 +99,8 @@ resumed ms before t (whats.Released m) = []
 resumed ms before t (whats.Priority level) = []
 resumed ms before t (whats.Ceiling m level) = []
 resumed ms before t (whats.Blocks x) = []
-resumed ms before t (whats.Resumes x ended) = blocked_row (block t (began (is_blocked t) before)) ms (number ms) ended ∷ []
+resumed ms before t (whats.Resumes x ended) =
+    blocked_row (block t (began (is_blocked t) before)) ms (number ms) ended ∷ []
 resumed ms before t (whats.Runs level) = []
 resumed ms before t (whats.On cpu) = []
 resumed ms before t whats.OffReady = []
@@ -106,7 +109,8 @@ resumed ms before t whats.OffAsleep = []
 -- the rows of the wait of t if the newest line ended it
 abbrev pub granted : List Moment → List Moment → ℕ → List Row
 granted ms before t =
-    if waits t (now before) && not (waits t (now ms)) then wait_rows (wait_start t (began (waits t) before)) ms (number ms) (tally t ms) else []
+    if waits t (now before) && not (waits t (now ms))
+    then wait_rows (wait_start t (began (waits t) before)) ms (number ms) (tally t ms) else []
 
 -- the rows of what the newest line ended
 abbrev pub rows_at : List Moment → List Moment → Line → List Row
@@ -122,11 +126,13 @@ ended_rows (m ∷ ms) = ended_rows ms ++ rows_at (m ∷ ms) ms m.line
 -- ---- what lasts to the end
 
 abbrev pub lasting_wait : List Moment → ℕ → List Row
-lasting_wait ms t = if waits t (now ms) then wait_rows (wait_start t (began (waits t) ms)) ms 0 (tally t ms) else []
+lasting_wait ms t =
+    if waits t (now ms) then wait_rows (wait_start t (began (waits t) ms)) ms 0 (tally t ms) else []
 
 abbrev pub lasting_block : List Moment → ℕ → List Row
 lasting_block ms t =
-    if is_blocked t (now ms) then blocked_row (block t (began (is_blocked t) ms)) ms 0 ends.Unknown ∷ [] else []
+    if is_blocked t (now ms)
+    then blocked_row (block t (began (is_blocked t) ms)) ms 0 ends.Unknown ∷ [] else []
 
 abbrev pub lasting_run : List Moment → ℕ → List Row
 lasting_run ms t =
@@ -180,9 +186,11 @@ is_first_of_cycle w t =
     contains (drop 1 (way w.state t)) t && is_least (thread_number w t) (cycle w t)
 
 abbrev pub deadlock_rows : World → List Row
-deadlock_rows w = map (λ t. row words.Deadlock (cycle w t)) (filter (is_first_of_cycle w) (by_number w))
+deadlock_rows w =
+    map (λ t. row words.Deadlock (cycle w t)) (filter (is_first_of_cycle w) (by_number w))
 
--- the row is that of a wait, and this holds of its twelfth number, for how long the wait was inverted
+-- the row is that of a wait, and this holds of its twelfth number, for how long the wait was
+-- inverted
 abbrev pub wait_with : (ℕ → Bool) → Row → Bool
 wait_with holds r = is_wait r.word && option_map_or holds (slice_get r.numbers 11) false
 
@@ -193,7 +201,8 @@ was_inverted r = wait_with (λ n. nat_lt 0 n) r
 abbrev pub end_row : List Moment → List Row → List Row → Row
 end_row ms rows deadlocks =
     row words.End
-    (number ms ∷ clock ms ∷ count_by (wait_with (λ n. true)) rows ∷ count_by was_inverted rows ∷ length deadlocks ∷ [])
+    (number ms ∷ clock ms ∷ count_by (wait_with (λ n. true)) rows
+    ∷ count_by was_inverted rows ∷ length deadlocks ∷ [])
 
 -- the rows of what ended and of what lasts to the end
 abbrev pub all_rows : List Moment → List Row
@@ -213,7 +222,8 @@ moments_of ls = fold followed_by first_moments ls
 -- 1 if a wait was inverted or there is a deadlock at the end, or else 0
 abbrev pub status_of : List Moment → ℕ
 status_of ms =
-    if nat_lt 0 (count_by was_inverted (all_rows ms)) || nat_lt 0 (length (deadlock_rows (now ms))) then 1 else 0
+    if nat_lt 0 (count_by was_inverted (all_rows ms)) || nat_lt 0 (length (deadlock_rows (now ms)))
+    then 1 else 0
 
 -- the bytes of the rows
 abbrev pub text_of : List Row → List ℕ

@@ -1,5 +1,6 @@
 -- What is kept of threads that the kernel runs at another level than they get: docs/ROWS.md, 'ran'.
-use Rattle.std.specs.Prelude.{◌≡◌, ℕ, Bool, true, false, List, [], Option, Some, None, map, length, flat_map, if◌then◌else◌}
+use Rattle.std.specs.Prelude.{◌≡◌, ℕ, Bool, true, false, List, [], Option, Some, None, map, length}
+use Rattle.std.specs.Prelude.{flat_map, if◌then◌else◌}
 use Rattle.std.specs.List.{filter, fold}
 use Rattle.std.specs.Option.{option_map_or}
 use Rattle.pim_base.specs.Lists.{contains}
@@ -35,14 +36,15 @@ change_of w after t = record { thread = t; before = run_apart w t; now = run_apa
 abbrev pub IsEven : World → Type 0
 IsEven w = length w.kernel.runs ≡ length w.state.base
 
--- these are the changes of these threads, in the order of their numbers, from one world to the next; no other thread's levels
--- change
+-- these are the changes of these threads, in the order of their numbers, from one world to the
+-- next; no other thread's levels change
 pub record AreChanges (w after : World) (ts : List ℕ) (changes : List RunChange) : Type 0 where
   pub values : changes ≡ map (change_of w after) ts
   pub others : (t : ℕ) → contains ts t ≡ false → run_apart after t ≡ run_apart w t
   pub order : filter (contains ts) (by_number w) ≡ ts
 
--- the row of what began as is kept, if the levels were these before the line of this number, at this time, and are those now
+-- the row of what began as is kept, if the levels were these before the line of this number, at
+-- this time, and are those now
 abbrev pub ended_by : Option RunStart → ℕ → ℕ → Option (ℕ × ℕ) → Option (ℕ × ℕ) → List Row
 ended_by kept time line before now =
     option_map_or
@@ -50,12 +52,21 @@ ended_by kept time line before now =
     before
     []
 
--- what is kept with what begins for t, if its levels were these before the line of this number, after which the world is this,
--- and are those now
-abbrev pub with_begun : World → ℕ → (ℕ → Option RunStart) → ℕ → Option (ℕ × ℕ) → Option (ℕ × ℕ) → ℕ → Option RunStart
+-- what is kept with what begins for t, if its levels were these before the line of this number,
+-- after which the world is this, and are those now
+abbrev pub with_begun :
+    World
+    → ℕ
+    → (ℕ → Option RunStart)
+    → ℕ
+    → Option (ℕ × ℕ)
+    → Option (ℕ × ℕ)
+    → ℕ
+    → Option RunStart
 with_begun w line kept t before now =
     option_map_or
-    (λ both. if are_levels both before then kept else set t (Some (run_start_at t line both w)) kept)
+    (λ both. if are_levels both before
+    then kept else set t (Some (run_start_at t line both w)) kept)
     now
     kept
 

@@ -13,7 +13,8 @@ abbrev pub If : Bool → Type 0 → Type 0
 If true so = so
 If false so = Unit {0}
 
--- this is so after the newest line, and after each one before it, back to the line by which it came to hold
+-- this is so after the newest line, and after each one before it, back to the line by which it came
+-- to hold
 abbrev pub Since : (World → Bool) → (World → Type 0) → List Moment → Type 0
 Since holds so [] = Unit {0}
 Since holds so (m ∷ ms) = so m.world × If (holds (now ms)) (Since holds so ms)

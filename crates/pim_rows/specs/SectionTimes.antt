@@ -1,5 +1,5 @@
 -- For how long sections use a CPU: docs/ROWS.md, law 6.
-use Rattle.std.specs.Prelude.{◌≡◌, ◌≤◌, ℕ, Bool, true, false, List}
+use Rattle.std.specs.Prelude.{◌≡◌, ◌≤◌, Bool, true, false, List}
 use Rattle.std.specs.List.{AllByRecursion}
 use Rattle.pim_fact_lines.specs.declared.line.Line.{Line}
 use Rattle.pim_fact_lines.specs.declared.line.Line.TheVariants as lines

@@ -1,6 +1,6 @@
 -- What holds of a waiting thread after a line: docs/ROWS.md, 'After a line'.
-use Rattle.std.specs.Prelude.{ℕ, ◌==◌, Bool, true, false, not, ◌&&◌, Option, Some, None, is_some, is_none, unwrap_or}
-use Rattle.std.specs.Prelude.{nat_lt, if◌then◌else◌}
+use Rattle.std.specs.Prelude.{ℕ, ◌==◌, Bool, true, false, not, ◌&&◌, Option, Some, None, is_some}
+use Rattle.std.specs.Prelude.{is_none, unwrap_or, nat_lt, if◌then◌else◌}
 use Rattle.std.specs.Option.{option_and_then, option_map}
 use Rattle.pim_base.specs.Lists.{nth}
 use Rattle.pim_base.specs.State.{base_of, wait_of}
@@ -68,7 +68,8 @@ inverted_by w t = runner_with_less (gets w.state) w t
 abbrev pub is_lower : World → ℕ → Bool
 is_lower w t = is_some (runner_with_less (base_of w.state) w t)
 
--- the thread that runs in place of the runner of an inverted t: another one than t, below what t gets
+-- the thread that runs in place of the runner of an inverted t: another one than t, below what t
+-- gets
 abbrev pub meanwhile_of : World → ℕ → ℕ → Option ℕ
 meanwhile_of w t r =
     option_and_then

@@ -1,6 +1,6 @@
 -- Tables in ascending order of their keys.
-use Rattle.std.specs.Prelude.{ℕ, ◌+◌, ◌==◌, Bool, ◌&&◌, ◌||◌, List, [], ◌∷◌, Option, Some, None, unwrap_or, map, sum, slice_get}
-use Rattle.std.specs.Prelude.{nat_lt, if◌then◌else◌}
+use Rattle.std.specs.Prelude.{ℕ, ◌+◌, ◌==◌, Bool, ◌&&◌, ◌||◌, List, [], ◌∷◌, Option, Some, None}
+use Rattle.std.specs.Prelude.{unwrap_or, map, sum, slice_get, nat_lt, if◌then◌else◌}
 use Rattle.std.specs.List.{position_or_len}
 use Rattle.std.specs.Option.{option_and_then}
 use Rattle.pim_rows.specs.Standing.{Key}
@@ -26,7 +26,8 @@ place k rows = position_or_len (reaches k) rows
 
 -- what the key has in a row at this place
 abbrev pub value_at : {V : Type 0} → Key → Table V → ℕ → Option V
-value_at k rows i = option_and_then (λ row. if same_key row.0 k then Some row.1 else None) (slice_get rows i)
+value_at k rows i =
+    option_and_then (λ row. if same_key row.0 k then Some row.1 else None) (slice_get rows i)
 
 -- the table in which this is done to what a key has
 abbrev pub change : {V : Type 0} → Key → (Option V → V) → Table V → Table V

@@ -1,4 +1,5 @@
--- For how long what held of a waiting thread: docs/ROWS.md, 'wait', 'inverted', 'stalled' and 'meanwhile'.
+-- For how long what held of a waiting thread: docs/ROWS.md, 'wait', 'inverted', 'stalled' and
+-- 'meanwhile'.
 use Rattle.std.specs.Prelude.{ℕ, ◌+◌, ◌≤◌, List, [], ◌∷◌, if◌then◌else◌}
 use Rattle.pim_rows.specs.Moments.{Moment, now, stretch}
 use Rattle.pim_rows.specs.Standing.{Standing, standing, waits}
@@ -23,7 +24,8 @@ with_time s time tally = record {
 abbrev pub tally : ℕ → List Moment → Tally
 tally t [] = no_tally
 tally t (m ∷ ms) =
-    if waits t (now ms) then with_time (standing (now ms) t) (stretch m ms) (tally t ms) else no_tally
+    if waits t (now ms)
+    then with_time (standing (now ms) t) (stretch m ms) (tally t ms) else no_tally
 
 -- no time of the tally is above this one
 pub record IsWithin (time : ℕ) (tally : Tally) : Type 0 where

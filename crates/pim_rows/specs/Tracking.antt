@@ -17,7 +17,8 @@ use Rattle.pim_rows.specs.Levels.{AreLevels}
 use Rattle.pim_rows.specs.Affected.{AreWaits}
 use Rattle.pim_rows.specs.Puts.{Puts}
 
--- it has followed these lines: what it keeps is of what lasts, and it has written the rows of what ended
+-- it has followed these lines: what it keeps is of what lasts, and it has written the rows of what
+-- ended
 pub record Tracks (t : Tracker) (ms : List Moment) : Type 0 where
   pub world : world_of t.world ≡ now ms
   pub even : IsEven (now ms)

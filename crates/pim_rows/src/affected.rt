@@ -8,7 +8,8 @@ ghost use Rattle.pim_world.specs.After.{after};
 ghost use Rattle.pim_world.specs.Held.{world_of, touched_of};
 ghost use Rattle.pim_world.specs.Touching.{declares};
 ghost use Rattle.pim_rows.specs.AllOpen.{AreOpen, AreSame};
-ghost use Rattle.pim_rows.specs.Affected.{AreWaits, affects_all, is_of_object, is_of_state, keeps_rest};
+ghost use Rattle.pim_rows.specs.Affected.{AreWaits, affects_all, is_of_object, is_of_state};
+ghost use Rattle.pim_rows.specs.Affected.{keeps_rest};
 ghost use Rattle.pim_rows.specs.Moments.{Moment, now};
 
 use crate::open_waits::OpenWaits;
@@ -17,11 +18,11 @@ use pim_waits::ThreadPlace;
 use pim_world::World;
 use std::alloc::{AllocError, Global};
 
-/// Returns the threads of which something else may hold after a line than before, if they wait. Takes the world after it, and
-/// the waits that are kept, as they were before it.
+/// Returns the threads of which something else may hold after a line than before, if they wait.
+/// Takes the world after it, and the waits that are kept, as they were before it.
 ///
-/// A line affects the threads that it touches. What the kernel does affects a thread only while it is inverted. A declaration,
-/// and a line of an object, affect all.
+/// A line affects the threads that it touches. What the kernel does affects a thread only while it
+/// is inverted. A declaration, and a line of an object, affect all.
 ///
 /// # Errors
 ///
@@ -32,8 +33,10 @@ pub(crate) fn affected(
     line: &Line,
     opens: &OpenWaits,
 ) -> Result<Vec<ThreadPlace>, AllocError>
-    ensures { IfOk result (λ threads. (ms : List Moment) → world_of world.now ≡ after (now ms) line.now → AreWaits (now ms)
-        → (declares line.now ≡ false → Touches (now ms).state (world_of world.now).state [] (touched_of world.now))
+    ensures { IfOk result (λ threads.
+        (ms : List Moment) → world_of world.now ≡ after (now ms) line.now → AreWaits (now ms)
+        → (declares line.now ≡ false
+        → Touches (now ms).state (world_of world.now).state [] (touched_of world.now))
         → AreOpen opens.now.opens.items ms
         → AreSame (now ms) (after (now ms) line.now) threads.items) }
 {
@@ -50,7 +53,8 @@ pub(crate) fn affected(
     Ok(threads)
 }
 
-/// Returns whether a line declares a thread or a mutex, or a thread is blocked by it, or isn't any more.
+/// Returns whether a line declares a thread or a mutex, or a thread is blocked by it, or isn't any
+/// more.
 fn affects_all(line: &Line) -> bool
     ensures { result ≡ affects_all line.now }
 {
@@ -112,7 +116,8 @@ fn touched(alloc: Global, world: &World) -> Result<Vec<ThreadPlace>, AllocError>
 
 /// Returns all threads.
 fn all_threads(alloc: Global, world: &World) -> Result<Vec<ThreadPlace>, AllocError>
-    ensures { IfOk result (λ threads. (t : ℕ) → IsTask (world_of world.now).state t → contains threads.items t ≡ true) }
+    ensures { IfOk result (λ threads.
+        (t : ℕ) → IsTask (world_of world.now).state t → contains threads.items t ≡ true) }
 {
     let mut threads = Vec::new(alloc);
     for index in 0..world.waits().threads() {

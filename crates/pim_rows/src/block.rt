@@ -28,9 +28,21 @@ impl Model for Block {
 
     ghost Value = { spec.Block };
 
-    ghost view = { λ b. record { line = b.line; thread = b.thread; object = b.object; from = b.from; level = b.level } };
+    ghost view = { λ b. record {
+      line = b.line;
+      thread = b.thread;
+      object = b.object;
+      from = b.from;
+      level = b.level;
+    } };
 
-    ghost inverse = { λ b. record { line = b.line; thread = b.thread; object = b.object; from = b.from; level = b.level } };
+    ghost inverse = { λ b. record {
+      line = b.line;
+      thread = b.thread;
+      object = b.object;
+      from = b.from;
+      level = b.level;
+    } };
 }
 
 impl Block {

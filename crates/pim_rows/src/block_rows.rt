@@ -14,8 +14,8 @@ use pim_fact_lines::{Ended, ThreadNo};
 use pim_world::World;
 use std::alloc::AllocError;
 
-/// Appends the row of a wait that began so and ended so. Takes the world after the newest line, and the number of the line
-/// that ended the wait, or 0 if it lasts.
+/// Appends the row of a wait that began so and ended so. Takes the world after the newest line, and
+/// the number of the line that ended the wait, or 0 if it lasts.
 ///
 /// # Errors
 ///
@@ -39,7 +39,8 @@ pub(crate) fn put_block(
 
 /// Returns the numbers of the row of a wait.
 fn block_numbers(start: Block, world: &World, until: u64, ended: &Ended) -> [u64; 10]
-    ensures { (ms : List Moment) → now ms ≡ world_of world.now → result ≡ (blocked_row start ms until ended.now).numbers }
+    ensures { (ms : List Moment)
+        → now ms ≡ world_of world.now → result ≡ (blocked_row start ms until ended.now).numbers }
 {
     let [how, thread, level] = end_numbers(world, ended);
     [
@@ -70,7 +71,8 @@ fn end_numbers(world: &World, ended: &Ended) -> [u64; 3]
 
 /// Returns the level of the thread with a number, or 0 if there is none.
 fn level_of(world: &World, number: ThreadNo) -> u64
-    ensures { result ≡ option_map_or (λ p. base_of (world_of world.now).state p) ((world_of world.now).thread number) 0 }
+    ensures { result ≡ option_map_or
+        (λ p. base_of (world_of world.now).state p) ((world_of world.now).thread number) 0 }
 {
     match world.thread(number) {
         Some(thread) => world.level(thread),

@@ -31,7 +31,8 @@ impl Blocks {
         }
     }
 
-    /// Goes on by a line, the one with this number. Takes the world after it, its thread, and whether that was blocked before.
+    /// Goes on by a line, the one with this number. Takes the world after it, its thread, and
+    /// whether that was blocked before.
     pub(crate) fn follow(
         &mut self,
         world: &World,
@@ -39,7 +40,8 @@ impl Blocks {
         thread: Option<ThreadPlace>,
         was: bool,
     ) -> Result<(), AllocError>
-        ensures { IfOk result (λ _. (ms : List Moment) (l : Line) → world_of world.now ≡ after (now ms) l → line ≡ number ms + 1
+        ensures { IfOk result (λ _. (ms : List Moment) (l : Line)
+            → world_of world.now ≡ after (now ms) l → line ≡ number ms + 1
             → thread ≡ actor (now ms) l → ((t : ℕ) → thread ≡ Some t → was ≡ is_blocked t (now ms))
             → AreStarts is_blocked block (kept_of self.old.starts) ms
             → AreStarts is_blocked block (kept_of self.new.starts) (followed_by ms l)) }

@@ -1,9 +1,11 @@
 //! The deadlocks at the end.
 
-ghost use Rattle.std.specs.Prelude.{◌≡◌, ◌++◌, ◌∷◌, [], length, map, drop, IfOk, IsTrue, if◌then◌else◌};
+ghost use Rattle.std.specs.Prelude.{◌≡◌, ◌++◌, ◌∷◌, [], length, map, drop, IfOk, IsTrue};
+ghost use Rattle.std.specs.Prelude.{if◌then◌else◌};
 ghost use Rattle.std.specs.Map.{values_of};
 ghost use Rattle.pim_base.specs.Chains.{blocker};
-ghost use Rattle.pim_rows.specs.Rows.{by_number, cycle, is_least, is_first_of_cycle, deadlock_rows, text_of};
+ghost use Rattle.pim_rows.specs.Rows.{by_number, cycle, is_least, is_first_of_cycle, deadlock_rows};
+ghost use Rattle.pim_rows.specs.Rows.{text_of};
 ghost use Rattle.pim_base.specs.Lists.{contains};
 ghost use Rattle.pim_waits.specs.Waiting.{way};
 ghost use Rattle.pim_rows.specs.Words.{row, row_text};
@@ -55,7 +57,8 @@ pub(crate) fn values(
 ///
 /// Returns `AllocError` if out of memory.
 pub fn put_deadlocks(out: &mut Vec<u8>, alloc: Global, world: &World) -> Result<u64, AllocError>
-    ensures text { IfOk result (λ _. out.new.items ≡ out.old.items ++ text_of (deadlock_rows (world_of world.now))) }
+    ensures text { IfOk result
+        (λ _. out.new.items ≡ out.old.items ++ text_of (deadlock_rows (world_of world.now))) }
     ensures count { IfOk result (λ count. count ≡ length (deadlock_rows (world_of world.now))) }
 {
     let threads = count_threads(world.waits())?;
@@ -70,8 +73,8 @@ pub fn put_deadlocks(out: &mut Vec<u8>, alloc: Global, world: &World) -> Result<
     Ok(count)
 }
 
-/// Appends the row of the cycle of waits on which a thread is, if it is on one and no thread of it has a lower number.
-/// Returns whether there is such a row.
+/// Appends the row of the cycle of waits on which a thread is, if it is on one and no thread of it
+/// has a lower number. Returns whether there is such a row.
 ///
 /// # Errors
 ///
@@ -84,9 +87,11 @@ fn put_deadlock(
     numbers: &mut Vec<u64>,
 ) -> Result<bool, AllocError>
     requires { threads ≡ length (world_of world.now).state.base }
-    ensures first { IfOk result (λ is_first. is_first ≡ is_first_of_cycle (world_of world.now) thread) }
+    ensures first { IfOk result
+        (λ is_first. is_first ≡ is_first_of_cycle (world_of world.now) thread) }
     ensures text { IfOk result (λ is_first. let w = world_of world.now in
-        out.new.items ≡ out.old.items ++ (if is_first then row_text (row words.Deadlock (cycle w thread)) else [])) }
+        out.new.items ≡ out.old.items
+        ++ (if is_first then row_text (row words.Deadlock (cycle w thread)) else [])) }
 {
     if !find_cycle(world, threads, thread, numbers)? {
         return Ok(false);
@@ -98,7 +103,8 @@ fn put_deadlock(
     Ok(true)
 }
 
-/// Returns whether a thread is on a cycle of waits, and if it is, puts the numbers of the cycle's threads, from it on.
+/// Returns whether a thread is on a cycle of waits, and if it is, puts the numbers of the cycle's
+/// threads, from it on.
 ///
 /// # Errors
 ///
@@ -110,8 +116,10 @@ fn find_cycle(
     numbers: &mut Vec<u64>,
 ) -> Result<bool, AllocError>
     requires { count ≡ length (world_of world.now).state.base }
-    ensures found { IfOk result (λ found. found ≡ contains (drop 1 (way (world_of world.now).state thread)) thread) }
-    ensures numbers { IfOk result (λ found. IsTrue found → numbers.new.items ≡ cycle (world_of world.now) thread) }
+    ensures found { IfOk result
+        (λ found. found ≡ contains (drop 1 (way (world_of world.now).state thread)) thread) }
+    ensures numbers { IfOk result
+        (λ found. IsTrue found → numbers.new.items ≡ cycle (world_of world.now) thread) }
 {
     numbers.clear();
     push_number(world, thread, numbers)?;
@@ -131,7 +139,8 @@ fn find_cycle(
 
 /// Appends the number of a thread.
 fn push_number(world: &World, thread: ThreadPlace, numbers: &mut Vec<u64>) -> Result<(), AllocError>
-    ensures { IfOk result (λ _. numbers.new.items ≡ numbers.old.items ++ thread_number (world_of world.now) thread ∷ []) }
+    ensures { IfOk result (λ _.
+        numbers.new.items ≡ numbers.old.items ++ thread_number (world_of world.now) thread ∷ []) }
 {
     match numbers.push(world.thread_number(thread)) {
         Ok(()) => Ok(()),

@@ -32,8 +32,9 @@ pub(crate) struct EndedWaits {
     pub(crate) inverted: u64,
 }
 
-/// Appends the rows of the wait and of the block that a line ends, the one with this number. Takes the world after it, its
-/// thread, the times of the wait that it ended, if it ended one, and how what lasted before it began.
+/// Appends the rows of the wait and of the block that a line ends, the one with this number. Takes
+/// the world after it, its thread, the times of the wait that it ended, if it ended one, and how
+/// what lasted before it began.
 ///
 /// # Errors
 ///
@@ -48,7 +49,8 @@ pub(crate) fn put_ended(
     starts: &WaitStarts,
     blocks: &Blocks,
 ) -> Result<EndedWaits, AllocError>
-    ensures { IfOk result (λ counts. (ms : List Moment) → world_of world.now ≡ after (now ms) line.now → number ≡ number_of ms + 1
+    ensures { IfOk result (λ counts. (ms : List Moment)
+        → world_of world.now ≡ after (now ms) line.now → number ≡ number_of ms + 1
         → thread ≡ actor (now ms) line.now → HasEnded times.now thread ms line.now
         → IsTrue (may_follow (now ms) line.now)
         → AreStarts waits wait_start (kept_of starts.now.starts) ms
@@ -96,7 +98,8 @@ fn put_wait_of(
     times: &Option<Tally>,
     starts: &WaitStarts,
 ) -> Result<EndedWaits, AllocError>
-    ensures { IfOk result (λ counts. (ms : List Moment) (l : Line) → world_of world.now ≡ after (now ms) l → number ≡ number_of ms + 1
+    ensures { IfOk result (λ counts. (ms : List Moment) (l : Line)
+        → world_of world.now ≡ after (now ms) l → number ≡ number_of ms + 1
         → times.now ≡ ended_tally thread ms l
         → AreStarts waits wait_start (kept_of starts.now.starts) ms
         → ArePut (granted (followed_by ms l) ms thread) out.old.items out.new.items counts) }
@@ -120,7 +123,8 @@ fn put_wait_of(
     })
 }
 
-/// Appends the row of the block of a thread if this ended it, with the line of this number, after which the world is this.
+/// Appends the row of the block of a thread if this ended it, with the line of this number, after
+/// which the world is this.
 fn put_resumed(
     out: &mut Vec<u8>,
     world: &World,
@@ -129,10 +133,12 @@ fn put_resumed(
     what: &What,
     blocks: &Blocks,
 ) -> Result<(), AllocError>
-    ensures { IfOk result (λ _. (ms : List Moment) (l : Line) → world_of world.now ≡ after (now ms) l → number ≡ number_of ms + 1
+    ensures { IfOk result (λ _. (ms : List Moment) (l : Line)
+        → world_of world.now ≡ after (now ms) l → number ≡ number_of ms + 1
         → IsTrue (may_happen (now ms) thread what.now)
         → AreStarts is_blocked block (kept_of blocks.now.starts) ms
-        → out.new.items ≡ out.old.items ++ text_of (resumed (followed_by ms l) ms thread what.now)) }
+        → out.new.items
+        ≡ out.old.items ++ text_of (resumed (followed_by ms l) ms thread what.now)) }
 {
     match what {
         What::Resumes(_, ended) => {

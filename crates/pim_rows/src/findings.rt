@@ -30,7 +30,8 @@ pub struct Findings {
 ///
 /// # Errors
 ///
-/// Returns `Line` with the number of the first invalid line, and why it is invalid; `Memory` if out of memory.
+/// Returns `Line` with the number of the first invalid line, and why it is invalid; `Memory` if out
+/// of memory.
 pub fn findings_of(alloc: Global, bytes: &[u8]) -> Result<Findings, FactsFault>
     ensures { MatchResult result (AreFound (lines_of bytes.now)) (IsFault (lines_of bytes.now)) }
 {
@@ -61,7 +62,8 @@ fn findings_in(alloc: Global, bytes: &[u8]) -> Result<Findings, AllocError>
 fn follow(alloc: Global, tracker: &mut Tracker, bytes: &[u8]) -> Result<(), AllocError>
     requires text { IsSome (line_of bytes.now) }
     requires before { (ms : List Moment) × Tracks tracker.old ms }
-    ensures { (ms : List Moment) (line : Line) → line_of bytes.now ≡ Some line → IsTrue (may_follow (now ms) line)
+    ensures { (ms : List Moment) (line : Line)
+        → line_of bytes.now ≡ Some line → IsTrue (may_follow (now ms) line)
         → Tracks tracker.old ms → IfOk result (λ _. Tracks tracker.new (followed_by ms line)) }
 {
     match read_line(bytes) {

@@ -17,7 +17,8 @@ use pim_waits::ThreadPlace;
 use pim_world::World;
 use std::alloc::{AllocError, Global};
 
-/// Goes on by a line with the world, and with the times off a CPU. Takes the thread of the line, and whether that was off before.
+/// Goes on by a line with the world, and with the times off a CPU. Takes the thread of the line,
+/// and whether that was off before.
 ///
 /// # Errors
 ///
@@ -33,7 +34,8 @@ pub(crate) fn go(
     ensures world { IfOk result (λ _. world_of world.new ≡ after (world_of world.old) line.now) }
     ensures touched { IfOk result (λ _. declares line.now ≡ false
         → Touches (world_of world.old).state (world_of world.new).state [] (touched_of world.new)) }
-    ensures off { IfOk result (λ _. (ms : List Moment) → world_of world.old ≡ now ms → thread ≡ actor (now ms) line.now
+    ensures off { IfOk result
+        (λ _. (ms : List Moment) → world_of world.old ≡ now ms → thread ≡ actor (now ms) line.now
         → ((t : ℕ) → thread ≡ Some t → was_off ≡ is_off t (now ms))
         → AreOffTimes (kept_of off_times.old.starts) ms
         → AreOffTimes (kept_of off_times.new.starts) (followed_by ms line.now)) }

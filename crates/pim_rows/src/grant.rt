@@ -28,13 +28,28 @@ impl Model for Grant {
 
     ghost Value = { spec.Grant };
 
-    ghost view = { λ g. record { owner = g.owner; thread = g.thread; level = g.level; off = g.off; line = g.line; from = g.from } };
+    ghost view = { λ g. record {
+      owner = g.owner;
+      thread = g.thread;
+      level = g.level;
+      off = g.off;
+      line = g.line;
+      from = g.from;
+    } };
 
-    ghost inverse = { λ g. record { owner = g.owner; thread = g.thread; level = g.level; off = g.off; line = g.line; from = g.from } };
+    ghost inverse = { λ g. record {
+      owner = g.owner;
+      thread = g.thread;
+      level = g.level;
+      off = g.off;
+      line = g.line;
+      from = g.from;
+    } };
 }
 
 impl Grant {
-    /// Returns how the ownership of a mutex began, which began with this line. For so long its owner had been off a CPU.
+    /// Returns how the ownership of a mutex began, which began with this line. For so long its
+    /// owner had been off a CPU.
     pub(crate) fn of(world: &World, mutex: MutexPlace, line: u64, off: u64) -> Grant
         ensures { result ≡ grant_at mutex line off (world_of world.now) }
     {

@@ -44,9 +44,11 @@ impl Grants {
         was: bool,
         off: u64,
     ) -> Result<(), AllocError>
-        ensures { IfOk result (λ _. (ms : List Moment) (l : Line) → world_of world.now ≡ after (now ms) l → line ≡ number ms + 1
+        ensures { IfOk result (λ _. (ms : List Moment) (l : Line)
+            → world_of world.now ≡ after (now ms) l → line ≡ number ms + 1
             → mutex ≡ mutex_of (now ms) l → ((m : ℕ) → mutex ≡ Some m → was ≡ is_owned m (now ms))
-            → ((m : ℕ) → mutex ≡ Some m → off ≡ off_time (owner_or_none (after (now ms) l) m) (followed_by ms l))
+            → ((m : ℕ) → mutex ≡ Some m
+            → off ≡ off_time (owner_or_none (after (now ms) l) m) (followed_by ms l))
             → AreStarts is_owned grant (kept_of self.old.starts) ms
             → AreStarts is_owned grant (kept_of self.new.starts) (followed_by ms l)) }
     {
@@ -66,7 +68,8 @@ impl Grants {
 
     /// Returns the line by which the owner of a mutex came to own it, or 0 if it is free.
     pub(crate) fn line_of(&self, world: &World, mutex: MutexPlace) -> u64
-        ensures { (ms : List Moment) → world_of world.now ≡ now ms → AreStarts is_owned grant (kept_of self.now.starts) ms
+        ensures { (ms : List Moment)
+            → world_of world.now ≡ now ms → AreStarts is_owned grant (kept_of self.now.starts) ms
             → result ≡ option_map_or (λ o. grant_line mutex ms) (owner_of (now ms).state mutex) 0 }
     {
         if world.waits().owner(mutex).is_none() {

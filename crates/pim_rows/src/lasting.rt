@@ -27,8 +27,9 @@ use pim_waits::ThreadPlace;
 use pim_world::World;
 use std::alloc::AllocError;
 
-/// Appends the rows of the waits for mutexes that last, of these threads. Takes how they began, and what is kept of them,
-/// which is of no use afterwards. Returns how many waits there are, and how many of them were inverted.
+/// Appends the rows of the waits for mutexes that last, of these threads. Takes how they began, and
+/// what is kept of them, which is of no use afterwards. Returns how many waits there are, and how
+/// many of them were inverted.
 ///
 /// # Errors
 ///
@@ -42,8 +43,10 @@ pub(crate) fn put_lasting_waits(
 ) -> Result<(u64, u64), AllocError>
     requires { AreUntil (world_of world.now).clock opens.old.opens.items }
     ensures { IfOk result (λ counts. (ms : List Moment) → world_of world.now ≡ now ms
-        → AreStarts waits wait_start (kept_of starts.now.starts) ms → AreOpen opens.old.opens.items ms
-        → Puts (flat_map (lasting_wait ms) places.now) out.old.items out.new.items counts.0 counts.1) }
+        → AreStarts waits wait_start (kept_of starts.now.starts) ms
+        → AreOpen opens.old.opens.items ms
+        → Puts
+        (flat_map (lasting_wait ms) places.now) out.old.items out.new.items counts.0 counts.1) }
 {
     let mut waits = 0;
     let mut inverted = 0;
@@ -55,7 +58,8 @@ pub(crate) fn put_lasting_waits(
     Ok((waits, inverted))
 }
 
-/// Appends the rows of the wait of a thread, if it waits. Returns how many waits that are, and how many of them were inverted.
+/// Appends the rows of the wait of a thread, if it waits. Returns how many waits that are, and how
+/// many of them were inverted.
 fn put_lasting_wait(
     out: &mut Vec<u8>,
     world: &World,
@@ -66,10 +70,12 @@ fn put_lasting_wait(
     requires { AreUntil (world_of world.now).clock opens.old.opens.items }
     ensures rows { IfOk result (λ counts. (ms : List Moment) → world_of world.now ≡ now ms
         → AreStarts waits wait_start (kept_of starts.now.starts) ms
-        → ((t : ℕ) (w : SpecOpenWait) → nth opens.old.opens.items t ≡ Some (Some w) → Follows w t ms)
+        → ((t : ℕ) (w : SpecOpenWait)
+        → nth opens.old.opens.items t ≡ Some (Some w) → Follows w t ms)
         → Puts (lasting_wait ms thread) out.old.items out.new.items counts.0 counts.1) }
     ensures most { IfOk result (λ counts. (counts.0 ≤ 1) × (counts.1 ≤ 1)) }
-    ensures left { (t : ℕ) (w : SpecOpenWait) → nth opens.new.opens.items t ≡ Some (Some w) → nth opens.old.opens.items t ≡ Some (Some w) }
+    ensures left { (t : ℕ) (w : SpecOpenWait) → nth opens.new.opens.items t ≡ Some (Some w)
+        → nth opens.old.opens.items t ≡ Some (Some w) }
 {
     if world.waits().awaited(thread).is_none() {
         return Ok((0, 0));

@@ -1,4 +1,5 @@
-//! Laws over the definitions: each is the contract of a function that does nothing, so that it is proved.
+//! Laws over the definitions: each is the contract of a function that does nothing, so that it is
+//! proved.
 
 ghost use Rattle.pim_rows.specs.Laws.{SumsLaw, OrderLaw, BoundsLaw};
 ghost use Rattle.pim_rows.specs.Inversions.{InversionLaw};
@@ -18,14 +19,16 @@ pub fn order_law()
     ensures { OrderLaw }
 {}
 
-/// A wait is inverted for no longer than its runner has a lower level, and its runner isn't blocked then.
+/// A wait is inverted for no longer than its runner has a lower level, and its runner isn't blocked
+/// then.
 ///
 /// Another thread runs in place of the runner for no longer than the wait is inverted.
 pub fn bounds_law()
     ensures { BoundsLaw }
 {}
 
-/// After each line: which waits aren't inverted, which mutex is blamed, and which threads are a runner and a meanwhile.
+/// After each line: which waits aren't inverted, which mutex is blamed, and which threads are a
+/// runner and a meanwhile.
 pub fn inversion_law()
     ensures { InversionLaw }
 {}
@@ -36,8 +39,8 @@ pub fn section_times_law()
     ensures without_off { WithoutOffLaw }
 {}
 
-/// Each row of a deadlock is a cycle of waits, from the thread with the lowest number on. Each thread on a cycle is in
-/// exactly one of them.
+/// Each row of a deadlock is a cycle of waits, from the thread with the lowest number on. Each
+/// thread on a cycle is in exactly one of them.
 pub fn deadlock_law()
     ensures { DeadlockLaw }
 {}

@@ -75,7 +75,8 @@ impl Levels {
     ///
     /// Returns `AllocError` if out of memory.
     pub(crate) fn follow(&mut self, changes: &[RunChange]) -> Result<(), AllocError>
-        ensures { IfOk result (λ _. kept_of self.new.apart ≡ with_levels (kept_of self.old.apart) changes.now) }
+        ensures { IfOk result
+            (λ _. kept_of self.new.apart ≡ with_levels (kept_of self.old.apart) changes.now) }
     {
         for change in changes {
             self.keep(change.thread, change.now)?;
@@ -85,7 +86,8 @@ impl Levels {
 
     /// Keeps the levels of a thread.
     fn keep(&mut self, thread: ThreadPlace, levels: Option<(u64, u64)>) -> Result<(), AllocError>
-        ensures { IfOk result (λ _. kept_of self.new.apart ≡ set thread (Some levels) (kept_of self.old.apart)) }
+        ensures { IfOk result
+            (λ _. kept_of self.new.apart ≡ set thread (Some levels) (kept_of self.old.apart)) }
     {
         self.apart.begin(thread.0, levels)?;
         Ok(())

@@ -1,11 +1,14 @@
 //! The rows that follow from a text of facts.
 //!
-//! [`findings_of`] returns the bytes of the rows, and the status: exactly those of specs/Rows.antt, which is docs/ROWS.md in
-//! definitions. It follows the text line by line, and keeps how each wait, section and other thing that lasts began.
+//! [`findings_of`] returns the bytes of the rows, and the status: exactly those of specs/Rows.antt,
+//! which is docs/ROWS.md in definitions. It follows the text line by line, and keeps how each wait,
+//! section and other thing that lasts began.
 //!
 //! ```text
-//! findings_of(alloc, b"facts 1\nthread 1 30 high\n5 end\n"); // Ok: the rows "end 3 5 0 0 0\n", and the status 0
-//! findings_of(alloc, b"facts 1\n5 1 granted 1\n"); // Err(Line(2, Refused(NoThread))): thread 1 isn't declared
+//! // Ok: the rows "end 3 5 0 0 0\n", and the status 0
+//! findings_of(alloc, b"facts 1\nthread 1 30 high\n5 end\n");
+//! // Err(Line(2, Refused(NoThread))): thread 1 isn't declared
+//! findings_of(alloc, b"facts 1\n5 1 granted 1\n");
 //! ```
 #![tactic(auto)]
 

@@ -32,7 +32,8 @@ pub(crate) fn actor(world: &World, line: &Line) -> Option<ThreadPlace>
     }
 }
 
-/// Returns the mutex that a line locks or releases, or `None` if it does neither. Takes the world before it.
+/// Returns the mutex that a line locks or releases, or `None` if it does neither. Takes the world
+/// before it.
 pub(crate) fn locked_mutex(world: &World, line: &Line) -> Option<MutexPlace>
     ensures { result ≡ mutex_of (world_of world.now) line.now }
 {
@@ -58,9 +59,11 @@ pub(crate) fn locked_mutex(world: &World, line: &Line) -> Option<MutexPlace>
     }
 }
 
-/// Returns the mutex that a line's thread asks for, or `None` if it asks for none. Takes the world before it.
+/// Returns the mutex that a line's thread asks for, or `None` if it asks for none. Takes the world
+/// before it.
 pub(crate) fn asked_mutex(world: &World, line: &Line) -> Option<MutexPlace>
-    ensures { result ≡ of_fact None (λ t what. asked_mutex (world_of world.now) t what) (world_of world.now) line.now }
+    ensures { result ≡ of_fact None
+        (λ t what. asked_mutex (world_of world.now) t what) (world_of world.now) line.now }
 {
     match line {
         Line::Fact {

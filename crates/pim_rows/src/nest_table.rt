@@ -73,8 +73,8 @@ impl NestTable {
         }
     }
 
-    /// Adds a request of a thread, which owned a mutex, for another one: the numbers of the key. It came to own the first
-    /// mutex by the line `taken`, and `line` is that of the request.
+    /// Adds a request of a thread, which owned a mutex, for another one: the numbers of the key. It
+    /// came to own the first mutex by the line `taken`, and `line` is that of the request.
     ///
     /// # Errors
     ///
@@ -140,7 +140,8 @@ fn with(had: Option<Nests>, taken: u64, line: u64) -> Result<Nests, AllocError>
 ///
 /// Returns `AllocError` if out of memory.
 pub fn put_nests(out: &mut Vec<u8>, table: &NestTable) -> Result<(), AllocError>
-    ensures { IfOk result (λ _. out.new.items ≡ out.old.items ++ text_of (map nests_row table.now)) }
+    ensures { IfOk result
+        (λ _. out.new.items ≡ out.old.items ++ text_of (map nests_row table.now)) }
 {
     for (key, nests) in &table.rows {
         put_row(out, Word::Nests, &nests.numbers(*key))?;

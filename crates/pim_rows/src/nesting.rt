@@ -18,8 +18,8 @@ use pim_waits::{MutexPlace, ThreadPlace};
 use pim_world::World;
 use std::alloc::AllocError;
 
-/// Puts the requests of a line, if it has some. Takes the world before it, its thread, the mutex that this asks for, its number,
-/// and the ownerships before it.
+/// Puts the requests of a line, if it has some. Takes the world before it, its thread, the mutex
+/// that this asks for, its number, and the ownerships before it.
 ///
 /// # Errors
 ///
@@ -32,8 +32,10 @@ pub(crate) fn put_nests(
     line: u64,
     grants: &Grants,
 ) -> Result<(), AllocError>
-    ensures { IfOk result (λ _. (ms : List Moment) (l : Line) → world_of world.now ≡ now ms → line ≡ number ms + 1
-        → thread ≡ actor (now ms) l → asked ≡ of_fact None (λ t what. asked_mutex (now ms) t what) (now ms) l
+    ensures { IfOk result
+        (λ _. (ms : List Moment) (l : Line) → world_of world.now ≡ now ms → line ≡ number ms + 1
+        → thread ≡ actor (now ms) l
+        → asked ≡ of_fact None (λ t what. asked_mutex (now ms) t what) (now ms) l
         → AreStarts is_owned grant (kept_of grants.now.starts) ms
         → table.old ≡ nests ms → table.new ≡ nests (followed_by ms l)) }
 {
@@ -56,7 +58,8 @@ fn put_nests_of(
     line: u64,
     grants: &Grants,
 ) -> Result<(), AllocError>
-    ensures { IfOk result (λ _. (ms : List Moment) → world_of world.now ≡ now ms → line ≡ number ms + 1
+    ensures { IfOk result
+        (λ _. (ms : List Moment) → world_of world.now ≡ now ms → line ≡ number ms + 1
         → AreStarts is_owned grant (kept_of grants.now.starts) ms
         → table.new ≡ put_nests ms thread mutex table.old) }
 {
@@ -82,7 +85,8 @@ fn put_nest(
     grants: &Grants,
 ) -> Result<(), AllocError>
     requires { owner_of (world_of world.now).state outer ≡ Some thread }
-    ensures { IfOk result (λ _. (ms : List Moment) → world_of world.now ≡ now ms → line ≡ number ms + 1
+    ensures { IfOk result
+        (λ _. (ms : List Moment) → world_of world.now ≡ now ms → line ≡ number ms + 1
         → AreStarts is_owned grant (kept_of grants.now.starts) ms
         → table.new ≡ put_nest ms thread mutex table.old outer) }
 {

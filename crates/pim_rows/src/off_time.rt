@@ -6,7 +6,8 @@ ghost use Rattle.pim_rows.specs.OffTimes.{no_off_time, off_until, off_from, off_
 /// For how long a thread has been off a CPU.
 #[derive(Clone, Copy)]
 pub(crate) struct OffTime {
-    /// For how long it was off in all, but for the time since it was last put off if it is off, in nanoseconds.
+    /// For how long it was off in all, but for the time since it was last put off if it is off, in
+    /// nanoseconds.
     before: u64,
     /// The clock when it was last put off, in nanoseconds.
     since: u64,

@@ -46,7 +46,8 @@ impl OffTimes {
 
     /// Returns for how long a thread has been off a CPU. Takes the world after the lines so far.
     pub(crate) fn so_far(&self, world: &World, thread: ThreadPlace) -> u64
-        ensures { (ms : List Moment) → world_of world.now ≡ now ms → AreOffTimes (kept_of self.now.starts) ms
+        ensures { (ms : List Moment)
+            → world_of world.now ≡ now ms → AreOffTimes (kept_of self.now.starts) ms
             → result ≡ off_time thread ms }
     {
         let kept = self.get(thread);
@@ -57,7 +58,8 @@ impl OffTimes {
         }
     }
 
-    /// Goes on by a line that isn't `lost`. Takes the world after it, its thread, and whether that was off a CPU before.
+    /// Goes on by a line that isn't `lost`. Takes the world after it, its thread, and whether that
+    /// was off a CPU before.
     ///
     /// # Errors
     ///
@@ -68,7 +70,8 @@ impl OffTimes {
         thread: Option<ThreadPlace>,
         was: bool,
     ) -> Result<(), AllocError>
-        ensures { IfOk result (λ _. (ms : List Moment) (l : Line) → world_of world.now ≡ after (now ms) l → is_lost l ≡ false
+        ensures { IfOk result (λ _. (ms : List Moment) (l : Line)
+            → world_of world.now ≡ after (now ms) l → is_lost l ≡ false
             → thread ≡ actor (now ms) l → ((t : ℕ) → thread ≡ Some t → was ≡ is_off t (now ms))
             → AreOffTimes (kept_of self.old.starts) ms
             → AreOffTimes (kept_of self.new.starts) (followed_by ms l)) }
@@ -98,7 +101,8 @@ impl OffTimes {
     ///
     /// Returns `AllocError` if out of memory.
     pub(crate) fn lose(&mut self, before: &World, time: u64) -> Result<(), AllocError>
-        ensures { IfOk result (λ _. (ms : List Moment) → world_of before.now ≡ now ms → AreOffTimes (kept_of self.old.starts) ms
+        ensures { IfOk result (λ _. (ms : List Moment)
+            → world_of before.now ≡ now ms → AreOffTimes (kept_of self.old.starts) ms
             → AreOffTimes (kept_of self.new.starts) (followed_by ms (lines.Lost time))) }
     {
         let clock = before.clock().max(time);

@@ -8,8 +8,9 @@ use std::alloc::{AllocError, Global};
 
 /// A wait that lasts, with what holds of the thread and for how long what held.
 ///
-/// The time for which a standing holds is added when another one takes its place, and when the wait ends. So a line
-/// after which the same holds costs a comparison, or nothing: it may go without a call.
+/// The time for which a standing holds is added when another one takes its place, and when the wait
+/// ends. So a line after which the same holds costs a comparison, or nothing: it may go without a
+/// call.
 #[derive(Drop)]
 pub struct OpenWait {
     since: u64,

@@ -1,6 +1,7 @@
 //! All waits that last.
 
-ghost use Rattle.std.specs.Prelude.{◌≡◌, false, ◌≢◌, ◌≤◌, ◌<◌, ◌+◌, ℕ, List, length, IfOk, Some, None};
+ghost use Rattle.std.specs.Prelude.{◌≡◌, false, ◌≢◌, ◌≤◌, ◌<◌, ◌+◌, ℕ, List, length, IfOk, Some};
+ghost use Rattle.std.specs.Prelude.{None};
 ghost use Rattle.pim_base.specs.Lists.{nth, contains};
 ghost use Rattle.pim_fact_lines.specs.declared.line.Line.{Line};
 ghost use Rattle.pim_world.specs.After.{after};
@@ -10,7 +11,9 @@ ghost use Rattle.pim_rows.specs.Moments.{Moment, now, first_moments, followed_by
 ghost use Rattle.pim_rows.specs.Standing.{waits};
 ghost use Rattle.pim_rows.specs.Found.{actor};
 ghost use Rattle.pim_rows.specs.OpenWaits.{IsUntil};
-ghost use Rattle.pim_rows.specs.AllOpen.{AreOpen, AreUntil, AreSame, AreCurrent, AreInverted, IsCalm, GoneOnAt, EndedAt, BegunAt, SameBut, open_at, ended_times};
+ghost use Rattle.pim_rows.specs.AllOpen.{AreOpen, AreUntil, AreSame, AreCurrent, AreInverted};
+ghost use Rattle.pim_rows.specs.AllOpen.{IsCalm, GoneOnAt, EndedAt, BegunAt, SameBut, open_at};
+ghost use Rattle.pim_rows.specs.AllOpen.{ended_times};
 
 use crate::open_wait::OpenWait;
 use crate::tally::{Standing, Tally};
@@ -34,8 +37,9 @@ impl OpenWaits {
         }
     }
 
-    /// Goes on by a line. Takes the world after it, its thread, whether that waited before, and the threads of which
-    /// something else may hold. Returns for how long what held of its thread, if the line ended its wait.
+    /// Goes on by a line. Takes the world after it, its thread, whether that waited before, and the
+    /// threads of which something else may hold. Returns for how long what held of its thread, if
+    /// the line ended its wait.
     ///
     /// # Errors
     ///
@@ -49,12 +53,14 @@ impl OpenWaits {
         affected: &[ThreadPlace],
     ) -> Result<Option<Tally>, AllocError>
         requires { AreUntil (world_of world.now).clock self.old.opens.items }
-        ensures kept { IfOk result (λ _. (ms : List Moment) (l : Line) → world_of world.now ≡ after (now ms) l
+        ensures kept { IfOk result
+            (λ _. (ms : List Moment) (l : Line) → world_of world.now ≡ after (now ms) l
             → thread ≡ actor (now ms) l → ((t : ℕ) → thread ≡ Some t → was ≡ waits t (now ms))
             → AreSame (now ms) (after (now ms) l) affected.now
             → AreOpen self.old.opens.items ms
             → AreOpen self.new.opens.items (followed_by ms l)) }
-        ensures ended { IfOk result (λ times. (ms : List Moment) (l : Line) → world_of world.now ≡ after (now ms) l
+        ensures ended { IfOk result
+            (λ times. (ms : List Moment) (l : Line) → world_of world.now ≡ after (now ms) l
             → thread ≡ actor (now ms) l → ((t : ℕ) → thread ≡ Some t → was ≡ waits t (now ms))
             → AreOpen self.old.opens.items ms
             → times ≡ ended_times thread ms l) }
@@ -94,8 +100,10 @@ impl OpenWaits {
     /// Appends the thread whose wait is at one place, if it is inverted.
     fn note(&self, index: usize, threads: &mut Vec<ThreadPlace>) -> Result<(), AllocError>
         requires { index < length self.now.opens.items }
-        ensures kept { IfOk result (λ _. (t : ℕ) → contains threads.new.items t ≡ false → contains threads.old.items t ≡ false) }
-        ensures here { IfOk result (λ _. contains threads.new.items (index + 1) ≡ false → IsCalm (nth self.now.opens.items (index + 1))) }
+        ensures kept { IfOk result (λ _.
+            (t : ℕ) → contains threads.new.items t ≡ false → contains threads.old.items t ≡ false) }
+        ensures here { IfOk result (λ _. contains threads.new.items (index + 1) ≡ false
+            → IsCalm (nth self.now.opens.items (index + 1))) }
     {
         if !self.is_inverted(index) {
             return Ok(());
@@ -120,8 +128,10 @@ impl OpenWaits {
     /// Keeps the wait of a thread, which waits since the line after which this is the world.
     fn begin(&mut self, alloc: Global, world: &World, thread: ThreadPlace) -> Result<(), AllocError>
         requires { 1 ≤ thread }
-        ensures here { IfOk result (λ _. BegunAt (world_of world.now) thread (open_at self.new.opens.items thread)) }
-        ensures others { IfOk result (λ _. SameBut thread self.old.opens.items self.new.opens.items) }
+        ensures here { IfOk result
+            (λ _. BegunAt (world_of world.now) thread (open_at self.new.opens.items thread)) }
+        ensures others { IfOk result
+            (λ _. SameBut thread self.old.opens.items self.new.opens.items) }
     {
         let open = OpenWait::new(alloc, Standing::of(world, thread), world.clock());
         self.grow(thread.0)?;
@@ -131,7 +141,8 @@ impl OpenWaits {
 
     /// Makes place for what is kept of as many threads.
     fn grow(&mut self, threads: usize) -> Result<(), AllocError>
-        ensures same { IfOk result (λ _. (t : ℕ) → open_at self.new.opens.items t ≡ open_at self.old.opens.items t) }
+        ensures same { IfOk result
+            (λ _. (t : ℕ) → open_at self.new.opens.items t ≡ open_at self.old.opens.items t) }
         ensures len { IfOk result (λ _. threads ≤ length self.new.opens.items) }
     {
         for _thread in self.opens.len()..threads {
@@ -145,7 +156,8 @@ impl OpenWaits {
         requires { AreUntil clock self.old.opens.items }
         ensures times { IfOk result (EndedAt clock (open_at self.old.opens.items thread)) }
         ensures gone { IfOk result (λ _. open_at self.new.opens.items thread ≡ None) }
-        ensures others { IfOk result (λ _. (t : ℕ) → t ≢ thread → nth self.new.opens.items t ≡ nth self.old.opens.items t) }
+        ensures others { IfOk result
+            (λ _. (t : ℕ) → t ≢ thread → nth self.new.opens.items t ≡ nth self.old.opens.items t) }
     {
         match self.take(thread.0) {
             Some(open) => Ok(Some(open.close(clock)?)),
@@ -157,7 +169,8 @@ impl OpenWaits {
     pub(crate) fn take(&mut self, place: usize) -> Option<OpenWait>
         ensures here { result ≡ open_at self.old.opens.items place }
         ensures gone { open_at self.new.opens.items place ≡ None }
-        ensures others { (t : ℕ) → t ≢ place → nth self.new.opens.items t ≡ nth self.old.opens.items t }
+        ensures others { (t : ℕ)
+            → t ≢ place → nth self.new.opens.items t ≡ nth self.old.opens.items t }
     {
         if place == 0 || self.opens.len() < place {
             return None;
@@ -165,12 +178,15 @@ impl OpenWaits {
         self.opens[place - 1].take()
     }
 
-    /// Goes on by a line with the waits of threads of which something else may hold. Takes the world after it, in which each
-    /// thread waits whose wait is kept.
+    /// Goes on by a line with the waits of threads of which something else may hold. Takes the
+    /// world after it, in which each thread waits whose wait is kept.
     fn refresh(&mut self, world: &World, affected: &[ThreadPlace]) -> Result<(), AllocError>
         requires { AreUntil (world_of world.now).clock self.old.opens.items }
-        ensures { IfOk result (λ _. AreCurrent (world_of world.now) affected.now self.old.opens.items
-            → (t : ℕ) → GoneOnAt (world_of world.now) t (nth self.old.opens.items t) (nth self.new.opens.items t)) }
+        ensures { IfOk result
+            (λ _. AreCurrent (world_of world.now) affected.now self.old.opens.items
+            → (t : ℕ)
+            → GoneOnAt
+            (world_of world.now) t (nth self.old.opens.items t) (nth self.new.opens.items t)) }
     {
         for thread in affected {
             self.refresh_at(world, *thread)?;
@@ -180,7 +196,8 @@ impl OpenWaits {
 
     /// Goes on with the wait of a thread, if one is kept.
     fn refresh_at(&mut self, world: &World, thread: ThreadPlace) -> Result<(), AllocError>
-        requires { (w : OpenWait) → nth self.old.opens.items thread ≡ Some (Some w) → IsUntil (world_of world.now).clock w }
+        requires { (w : OpenWait) → nth self.old.opens.items thread ≡ Some (Some w)
+            → IsUntil (world_of world.now).clock w }
         ensures here { IfOk result (λ _. GoneOnAt (world_of world.now) thread
             (nth self.old.opens.items thread) (nth self.new.opens.items thread)) }
         ensures others { IfOk result (λ _. (t : ℕ) → t ≢ thread
@@ -197,7 +214,8 @@ impl OpenWaits {
     /// Goes on with the wait at one place.
     fn refresh_in(&mut self, world: &World, index: usize) -> Result<(), AllocError>
         requires within { index < length self.old.opens.items }
-        requires until { (w : OpenWait) → nth self.old.opens.items (index + 1) ≡ Some (Some w) → IsUntil (world_of world.now).clock w }
+        requires until { (w : OpenWait) → nth self.old.opens.items (index + 1) ≡ Some (Some w)
+            → IsUntil (world_of world.now).clock w }
         ensures here { IfOk result (λ _. GoneOnAt (world_of world.now) (index + 1)
             (nth self.old.opens.items (index + 1)) (nth self.new.opens.items (index + 1))) }
         ensures others { IfOk result (λ _. (t : ℕ) → t ≢ index + 1

@@ -58,16 +58,16 @@ pub(crate) fn levels_of_all(alloc: Global, world: &World) -> Result<Vec<RunLevel
     Ok(levels)
 }
 
-/// Returns `false` only if no level at which the kernel runs a thread is known before a line or after it. Takes the world
-/// before it.
+/// Returns `false` only if no level at which the kernel runs a thread is known before a line or
+/// after it. Takes the world before it.
 pub(crate) fn may_run(world: &World, line: &Line) -> bool
     ensures { result ≡ false → IsUnrun (world_of world.now) line.now }
 {
     world.kernel().is_run() || is_runs(line)
 }
 
-/// Returns all threads, in ascending order of their numbers, if a line may change the levels of all of them. Takes the world
-/// before it, and what `may_run` returns.
+/// Returns all threads, in ascending order of their numbers, if a line may change the levels of all
+/// of them. Takes the world before it, and what `may_run` returns.
 ///
 /// # Errors
 ///
@@ -79,7 +79,8 @@ pub(crate) fn moved(
     may_run: bool,
 ) -> Result<Vec<ThreadPlace>, AllocError>
     ensures { IfOk result (λ threads.
-        may_run ≡ true → moves_all line.now ≡ true → threads.items ≡ by_number (world_of world.now)) }
+        may_run ≡ true
+        → moves_all line.now ≡ true → threads.items ≡ by_number (world_of world.now)) }
 {
     if may_run && moves_all(line) {
         let threads = by_number(alloc, world)?;
@@ -88,8 +89,8 @@ pub(crate) fn moved(
     Ok(Vec::new(alloc))
 }
 
-/// Returns the threads of which a line may have changed the levels, in ascending order of their numbers. Takes the world after
-/// it, its thread, and what `may_run` and `moved` return.
+/// Returns the threads of which a line may have changed the levels, in ascending order of their
+/// numbers. Takes the world after it, its thread, and what `may_run` and `moved` return.
 ///
 /// # Errors
 ///
@@ -102,11 +103,13 @@ pub(crate) fn changed(
     may_run: bool,
     moved: Vec<ThreadPlace>,
 ) -> Result<Vec<ThreadPlace>, AllocError>
-    ensures { IfOk result (λ threads. (w : worlds.World) → world_of world.now ≡ after w line.now → IsEven w
+    ensures { IfOk result
+        (λ threads. (w : worlds.World) → world_of world.now ≡ after w line.now → IsEven w
         → thread ≡ actor w line.now
         → (may_run ≡ false → IsUnrun w line.now)
         → (may_run ≡ true → moves_all line.now ≡ true → moved.items ≡ by_number w)
-        → (declares line.now ≡ false → Touches w.state (world_of world.now).state [] (touched_of world.now))
+        → (declares line.now ≡ false
+        → Touches w.state (world_of world.now).state [] (touched_of world.now))
         → MayChange w line.now threads.items) }
 {
     if !may_run {
@@ -126,7 +129,8 @@ fn with_thread(
     threads: &[ThreadPlace],
     thread: Option<ThreadPlace>,
 ) -> Result<Vec<ThreadPlace>, AllocError>
-    ensures { IfOk result (λ all. all.items ≡ option_map_or (λ t. threads.now ++ t ∷ []) thread threads.now) }
+    ensures { IfOk result
+        (λ all. all.items ≡ option_map_or (λ t. threads.now ++ t ∷ []) thread threads.now) }
 {
     let mut all = Vec::new(alloc);
     all.extend_from_slice(threads)?;

@@ -29,14 +29,26 @@ impl Model for RunStart {
 
     ghost Value = { spec.RunStart };
 
-    ghost view = { λ s. record { line = s.line; thread = s.thread; from = s.from; level = s.level; gets = s.gets } };
+    ghost view = { λ s. record {
+      line = s.line;
+      thread = s.thread;
+      from = s.from;
+      level = s.level;
+      gets = s.gets;
+    } };
 
-    ghost inverse = { λ s. record { line = s.line; thread = s.thread; from = s.from; level = s.level; gets = s.gets } };
+    ghost inverse = { λ s. record {
+      line = s.line;
+      thread = s.thread;
+      from = s.from;
+      level = s.level;
+      gets = s.gets;
+    } };
 }
 
 impl RunStart {
-    /// Returns how it began, with this line, that the kernel runs a thread at the first of these levels, and it gets the
-    /// second one.
+    /// Returns how it began, with this line, that the kernel runs a thread at the first of these
+    /// levels, and it gets the second one.
     pub(crate) fn of(world: &World, thread: ThreadPlace, line: u64, both: (u64, u64)) -> RunStart
         ensures { result ≡ run_start_at thread line both (world_of world.now) }
     {

@@ -8,7 +8,8 @@ ghost use Rattle.pim_rows.specs.Moments.{Moment, first_moments, now, number, fol
 ghost use Rattle.pim_rows.specs.Episodes.{are_levels};
 ghost use Rattle.pim_rows.specs.Kept.{kept_of};
 ghost use Rattle.pim_rows.specs.Rows.{ran_rows, ended_run, lasting_run, by_number, text_of};
-ghost use Rattle.pim_rows.specs.Runs.{AreRuns, AreChanges, levels_of, ended_by, all_ended, with_begun, with_all, all_lasting};
+ghost use Rattle.pim_rows.specs.Runs.{AreRuns, AreChanges, levels_of, ended_by, all_ended};
+ghost use Rattle.pim_rows.specs.Runs.{with_begun, with_all, all_lasting};
 
 use crate::row::Word;
 use crate::rows_text::put_row;
@@ -18,7 +19,8 @@ use pim_waits::ThreadPlace;
 use pim_world::World;
 use std::alloc::{AllocError, Global};
 
-/// The level at which the kernel ran a thread and what that got, if these were different, before a line and after it.
+/// The level at which the kernel ran a thread and what that got, if these were different, before a
+/// line and after it.
 #[derive(Clone, Copy)]
 pub(crate) struct RunChange {
     /// The thread.
@@ -54,8 +56,9 @@ impl Runs {
         }
     }
 
-    /// Goes on by a line, the one with this number. Takes the world after it, and the threads of which the levels may have
-    /// changed, in ascending order of their numbers. Appends the rows of what the line ended.
+    /// Goes on by a line, the one with this number. Takes the world after it, and the threads of
+    /// which the levels may have changed, in ascending order of their numbers. Appends the rows of
+    /// what the line ended.
     ///
     /// # Errors
     ///
@@ -67,11 +70,14 @@ impl Runs {
         line: u64,
         changes: &[RunChange],
     ) -> Result<(), AllocError>
-        ensures text { IfOk result (λ _. (ms : List Moment) (l : Line) (ts : List ℕ) → world_of world.now ≡ after (now ms) l → line ≡ number ms + 1
+        ensures text { IfOk result (λ _. (ms : List Moment) (l : Line) (ts : List ℕ)
+            → world_of world.now ≡ after (now ms) l → line ≡ number ms + 1
             → AreChanges (now ms) (after (now ms) l) ts changes.now
             → AreRuns (kept_of self.old.starts) ms
-            → out.new.items ≡ out.old.items ++ text_of (flat_map (ended_run (followed_by ms l) ms) (by_number (now ms)))) }
-        ensures kept { IfOk result (λ _. (ms : List Moment) (l : Line) (ts : List ℕ) → world_of world.now ≡ after (now ms) l → line ≡ number ms + 1
+            → out.new.items ≡ out.old.items
+            ++ text_of (flat_map (ended_run (followed_by ms l) ms) (by_number (now ms)))) }
+        ensures kept { IfOk result (λ _. (ms : List Moment) (l : Line) (ts : List ℕ)
+            → world_of world.now ≡ after (now ms) l → line ≡ number ms + 1
             → AreChanges (now ms) (after (now ms) l) ts changes.now
             → AreRuns (kept_of self.old.starts) ms
             → AreRuns (kept_of self.new.starts) (followed_by ms l)) }
@@ -90,7 +96,8 @@ impl Runs {
         changes: &[RunChange],
     ) -> Result<(), AllocError>
         ensures { IfOk result (λ _.
-            out.new.items ≡ out.old.items ++ text_of (all_ended (kept_of self.now.starts) time line changes.now)) }
+            out.new.items ≡ out.old.items
+            ++ text_of (all_ended (kept_of self.now.starts) time line changes.now)) }
     {
         for change in changes {
             self.put_ended(out, time, line, change.thread, change.before, change.now)?;
@@ -109,7 +116,8 @@ impl Runs {
         now: Option<(u64, u64)>,
     ) -> Result<(), AllocError>
         ensures { IfOk result (λ _.
-            out.new.items ≡ out.old.items ++ text_of (ended_by (kept_of self.now.starts thread) time line before now)) }
+            out.new.items ≡ out.old.items
+            ++ text_of (ended_by (kept_of self.now.starts thread) time line before now)) }
     {
         let Some(both) = before else {
             return Ok(());
@@ -131,7 +139,8 @@ impl Runs {
         changes: &[RunChange],
     ) -> Result<(), AllocError>
         ensures { IfOk result (λ _.
-            kept_of self.new.starts ≡ with_all (world_of world.now) line (kept_of self.old.starts) changes.now) }
+            kept_of self.new.starts
+            ≡ with_all (world_of world.now) line (kept_of self.old.starts) changes.now) }
     {
         for change in changes {
             self.begin(world, line, change.thread, change.before, change.now)?;
@@ -149,7 +158,8 @@ impl Runs {
         now: Option<(u64, u64)>,
     ) -> Result<(), AllocError>
         ensures { IfOk result (λ _.
-            kept_of self.new.starts ≡ with_begun (world_of world.now) line (kept_of self.old.starts) thread before now) }
+            kept_of self.new.starts ≡ with_begun
+            (world_of world.now) line (kept_of self.old.starts) thread before now) }
     {
         let Some(both) = now else {
             return Ok(());
@@ -162,7 +172,8 @@ impl Runs {
         Ok(())
     }
 
-    /// Appends the rows of what lasts. Takes the levels of all threads, in ascending order of their numbers.
+    /// Appends the rows of what lasts. Takes the levels of all threads, in ascending order of their
+    /// numbers.
     ///
     /// # Errors
     ///
@@ -176,7 +187,8 @@ impl Runs {
         ensures { IfOk result (λ _. (ms : List Moment) → world_of world.now ≡ now ms
             → threads.now ≡ map (levels_of (now ms)) (by_number (now ms))
             → AreRuns (kept_of self.now.starts) ms
-            → out.new.items ≡ out.old.items ++ text_of (flat_map (lasting_run ms) (by_number (now ms)))) }
+            → out.new.items
+            ≡ out.old.items ++ text_of (flat_map (lasting_run ms) (by_number (now ms)))) }
     {
         self.put_all_lasting(out, world.clock(), threads)?;
         Ok(())
@@ -190,7 +202,8 @@ impl Runs {
         threads: &[RunLevels],
     ) -> Result<(), AllocError>
         ensures { IfOk result (λ _.
-            out.new.items ≡ out.old.items ++ text_of (all_lasting (kept_of self.now.starts) time threads.now)) }
+            out.new.items ≡ out.old.items
+            ++ text_of (all_lasting (kept_of self.now.starts) time threads.now)) }
     {
         for one in threads {
             self.put_ended(out, time, 0, one.thread, one.levels, None)?;
@@ -209,9 +222,11 @@ fn are_levels(both: (u64, u64), levels: Option<(u64, u64)>) -> bool
     }
 }
 
-/// Appends the row of what began so and lasts until a line at this time, if it took more than no time.
+/// Appends the row of what began so and lasts until a line at this time, if it took more than no
+/// time.
 fn put_ran(out: &mut Vec<u8>, start: RunStart, time: u64, until: u64) -> Result<(), AllocError>
-    ensures { IfOk result (λ _. out.new.items ≡ out.old.items ++ text_of (ran_rows start time until)) }
+    ensures { IfOk result
+        (λ _. out.new.items ≡ out.old.items ++ text_of (ran_rows start time until)) }
 {
     if start.from < time {
         put_row(out, Word::Ran, &start.numbers(time, until))?;

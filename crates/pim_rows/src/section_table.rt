@@ -57,9 +57,11 @@ impl Model for Sections {
 
     ghost Value = { spec.Sections };
 
-    ghost view = { λ s. record { count = s.count; longest = s.longest; line = s.line; used = s.used } };
+    ghost view = { λ s.
+        record { count = s.count; longest = s.longest; line = s.line; used = s.used } };
 
-    ghost inverse = { λ s. record { count = s.count; longest = s.longest; line = s.line; used = s.used } };
+    ghost inverse = { λ s.
+        record { count = s.count; longest = s.longest; line = s.line; used = s.used } };
 }
 
 impl Sections {
@@ -192,7 +194,8 @@ fn with(had: Option<Sections>, section: Section) -> Result<Sections, AllocError>
 ///
 /// Returns `AllocError` if out of memory.
 pub fn put_sections(out: &mut Vec<u8>, table: &SectionTable) -> Result<(), AllocError>
-    ensures { IfOk result (λ _. out.new.items ≡ out.old.items ++ text_of (map section_row table.now)) }
+    ensures { IfOk result
+        (λ _. out.new.items ≡ out.old.items ++ text_of (map section_row table.now)) }
 {
     for (key, sections) in &table.rows {
         put_row(out, Word::Section, &sections.numbers(*key))?;

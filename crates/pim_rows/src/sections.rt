@@ -7,7 +7,8 @@ ghost use Rattle.pim_world.specs.Held.{world_of};
 ghost use Rattle.pim_rows.specs.Moments.{Moment, now, followed_by};
 ghost use Rattle.pim_rows.specs.Episodes.{is_owned};
 ghost use Rattle.pim_rows.specs.Begun.{grant};
-ghost use Rattle.pim_rows.specs.Found.{mutex_of, section, put_section, sections, all_sections, lasting_section};
+ghost use Rattle.pim_rows.specs.Found.{mutex_of, section, put_section, sections, all_sections};
+ghost use Rattle.pim_rows.specs.Found.{lasting_section};
 ghost use Rattle.pim_rows.specs.Kept.{kept_of};
 ghost use Rattle.pim_rows.specs.OffTimes.{AreOffTimes};
 ghost use Rattle.pim_rows.specs.Starts.{AreStarts};
@@ -20,8 +21,9 @@ use pim_waits::{MutexPlace, ThreadPlace};
 use pim_world::World;
 use std::alloc::AllocError;
 
-/// Puts the section that a line ends, if it ends one. Takes the world after it, the mutex that it locked or released, whether
-/// that was owned before, the ownerships before the line, and for how long threads have been off a CPU.
+/// Puts the section that a line ends, if it ends one. Takes the world after it, the mutex that it
+/// locked or released, whether that was owned before, the ownerships before the line, and for how
+/// long threads have been off a CPU.
 ///
 /// # Errors
 ///
@@ -34,7 +36,8 @@ pub(crate) fn end_section(
     grants: &Grants,
     off_times: &OffTimes,
 ) -> Result<(), AllocError>
-    ensures { IfOk result (λ _. (ms : List Moment) (l : Line) → world_of world.now ≡ after (now ms) l
+    ensures { IfOk result
+        (λ _. (ms : List Moment) (l : Line) → world_of world.now ≡ after (now ms) l
         → mutex ≡ mutex_of (now ms) l → ((m : ℕ) → mutex ≡ Some m → was ≡ is_owned m (now ms))
         → AreStarts is_owned grant (kept_of grants.now.starts) ms
         → AreOffTimes (kept_of off_times.now.starts) (followed_by ms l)
@@ -53,7 +56,8 @@ pub(crate) fn end_section(
     Ok(())
 }
 
-/// Puts the sections that last, at the end. Takes the world then, the ownerships, and for how long threads have been off a CPU.
+/// Puts the sections that last, at the end. Takes the world then, the ownerships, and for how long
+/// threads have been off a CPU.
 ///
 /// # Errors
 ///
@@ -95,7 +99,8 @@ fn put_lasting_section(
     Ok(())
 }
 
-/// Puts the section at a mutex, which lasts or ended with the newest line. Takes the world after that.
+/// Puts the section at a mutex, which lasts or ended with the newest line. Takes the world after
+/// that.
 fn put_section(
     table: &mut SectionTable,
     world: &World,
@@ -119,9 +124,11 @@ fn put_section(
     Ok(())
 }
 
-/// Returns the section that began so, and lasts or ended with the newest line. Takes the world after that.
+/// Returns the section that began so, and lasts or ended with the newest line. Takes the world
+/// after that.
 fn section_of(grant: Grant, world: &World, off_times: &OffTimes) -> Section
-    ensures { (ms : List Moment) → world_of world.now ≡ now ms → AreOffTimes (kept_of off_times.now.starts) ms
+    ensures { (ms : List Moment)
+        → world_of world.now ≡ now ms → AreOffTimes (kept_of off_times.now.starts) ms
         → result ≡ section grant ms }
 {
     let lasted = world.clock().saturating_sub(grant.from);

@@ -2,7 +2,8 @@
 
 ghost use Rattle.std.specs.Prelude.{◌≡◌, unwrap_or};
 ghost use Rattle.pim_world.specs.Held.{world_of, kernel_of};
-ghost use Rattle.pim_rows.specs.Standing.{run_level, is_ready_off, in_place_of, could_run, inverted_by, is_lower, meanwhile_of};
+ghost use Rattle.pim_rows.specs.Standing.{run_level, is_ready_off, in_place_of, could_run};
+ghost use Rattle.pim_rows.specs.Standing.{inverted_by, is_lower, meanwhile_of};
 ghost use Rattle.pim_waits.specs.Waiting.{blame};
 ghost use Rattle.pim_rows.specs.Standing.{mutex_number, standing};
 
@@ -81,7 +82,8 @@ fn inverted_by(world: &World, thread: ThreadPlace) -> Option<ThreadPlace>
     }
 }
 
-/// Returns whether a thread has a runner that could run, and whose level is below what the thread gets.
+/// Returns whether a thread has a runner that could run, and whose level is below what the thread
+/// gets.
 fn is_lower(world: &World, thread: ThreadPlace) -> bool
     ensures { result ≡ is_lower (world_of world.now) thread }
 {
@@ -105,7 +107,8 @@ fn meanwhile_of(world: &World, thread: ThreadPlace, runner: ThreadPlace) -> Opti
 
 /// Returns the number of the blamed mutex, or 0.
 fn blamed_number(world: &World, thread: ThreadPlace) -> u64
-    ensures { let w = world_of world.now in result ≡ mutex_number w (unwrap_or (blame w.state thread) 0) }
+    ensures { let w = world_of world.now in
+        result ≡ mutex_number w (unwrap_or (blame w.state thread) 0) }
 {
     match world.waits().blame(thread) {
         Some(mutex) => world.mutex_number(mutex),

@@ -2,7 +2,8 @@
 
 ghost use Rattle.std.specs.Prelude.{◌≡◌, ◌+◌, ◌<◌, ◌^◌, [], IfOk, OnErr, unwrap_or, ◌≤◌, length};
 ghost use Rattle.std.specs.List.{position, insert};
-ghost use Rattle.pim_rows.specs.Tables.{same_key, precedes, reaches, place, value_at, change, add, total};
+ghost use Rattle.pim_rows.specs.Tables.{same_key, precedes, reaches, place, value_at, change, add};
+ghost use Rattle.pim_rows.specs.Tables.{total};
 
 use std::alloc::{AllocError, Global};
 use std::marker::Model;
@@ -77,7 +78,8 @@ impl Times {
 #[tactic(auto, using(crate::proofs::Changes::changes))]
 fn add_row(rows: &mut Vec<(Key, u64)>, key: Key, time: u64) -> Result<(), AllocError>
     requires { total rows.old.items + time < 2 ^ 64 }
-    ensures ok { IfOk result (λ _. rows.new.items ≡ change key (λ sum. unwrap_or sum 0 + time) rows.old.items) }
+    ensures ok { IfOk result
+        (λ _. rows.new.items ≡ change key (λ sum. unwrap_or sum 0 + time) rows.old.items) }
     ensures err { OnErr result (rows.new.items ≡ rows.old.items) }
 {
     let place = place_of(rows, key);

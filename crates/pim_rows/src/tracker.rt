@@ -61,7 +61,8 @@ pub(crate) struct Tracker {
     inverted: u64,
 }
 
-// Each place that drops it calls this one function, where a derived drop would be a call for each part there.
+// Each place that drops it calls this one function, where a derived drop would be a call for each
+// part there.
 impl Drop for Tracker {
     fn drop(self) {
         let Tracker {
@@ -196,11 +197,13 @@ impl Tracker {
         Ok((out, is_bad))
     }
 
-    /// Writes the rows of what lasts, and all that comes after them. Returns whether the status is 1.
+    /// Writes the rows of what lasts, and all that comes after them. Returns whether the status is
+    /// 1.
     fn put_rest(&mut self, alloc: Global) -> Result<bool, AllocError>
         requires { (ms : List Moment) × Tracks self.old ms }
         ensures { (ms : List Moment) → Tracks self.old ms
-            → IfOk result (λ is_bad. (self.new.out.items ≡ text_of (rows_of ms)) × (is_bad ≡ (status_of ms == 1))) }
+            → IfOk result (λ is_bad.
+            (self.new.out.items ≡ text_of (rows_of ms)) × (is_bad ≡ (status_of ms == 1))) }
     {
         let (world, out) = (&self.world, &mut self.out);
         let places = by_number(alloc, world)?;
@@ -240,7 +243,8 @@ fn more(number: u64, by: u64) -> Result<u64, AllocError>
 /// Returns for how long the owner of a mutex has been off a CPU.
 fn off_of_owner(off_times: &OffTimes, world: &World, mutex: Option<MutexPlace>) -> u64
     ensures { (ms : List Moment) (m : ℕ) → mutex ≡ Some m → world_of world.now ≡ now ms
-        → AreOffTimes (kept_of off_times.now.starts) ms → result ≡ off_time (owner_or_none (now ms) m) ms }
+        → AreOffTimes (kept_of off_times.now.starts) ms
+        → result ≡ off_time (owner_or_none (now ms) m) ms }
 {
     let Some(mutex) = mutex else {
         return 0;

@@ -13,8 +13,8 @@ use crate::tally::Tally;
 use crate::wait_start::WaitStart;
 use std::alloc::AllocError;
 
-/// Appends the rows of a wait that began so and has these times. Takes the clock, and the number of the line that ended the
-/// wait, or 0 if it lasts.
+/// Appends the rows of a wait that began so and has these times. Takes the clock, and the number of
+/// the line that ended the wait, or 0 if it lasts.
 ///
 /// # Errors
 ///
@@ -37,7 +37,8 @@ pub(crate) fn put_wait(
 
 /// Returns the numbers of the row of a wait.
 fn wait_numbers(start: WaitStart, times: &Tally, clock: u64, until: u64) -> [u64; 14]
-    ensures { (ms : List Moment) → clock_of ms ≡ clock → result ≡ (wait_row start ms until times.now).numbers }
+    ensures { (ms : List Moment)
+        → clock_of ms ≡ clock → result ≡ (wait_row start ms until times.now).numbers }
 {
     [
         start.line,
@@ -57,9 +58,11 @@ fn wait_numbers(start: WaitStart, times: &Tally, clock: u64, until: u64) -> [u64
     ]
 }
 
-/// Appends a row for each mutex and runner by which the wait that began with this line was inverted.
+/// Appends a row for each mutex and runner by which the wait that began with this line was
+/// inverted.
 fn put_inverted(out: &mut Vec<u8>, line: u64, rows: &[(Key, u64)]) -> Result<(), AllocError>
-    ensures { IfOk result (λ _. out.new.items ≡ out.old.items ++ text_of (map (inverted_row line) rows.now)) }
+    ensures { IfOk result
+        (λ _. out.new.items ≡ out.old.items ++ text_of (map (inverted_row line) rows.now)) }
 {
     for (key, time) in rows {
         put_row(out, Word::Inverted, &[line, key.0, key.1, key.2, *time])?;
@@ -67,7 +70,8 @@ fn put_inverted(out: &mut Vec<u8>, line: u64, rows: &[(Key, u64)]) -> Result<(),
     Ok(())
 }
 
-/// Appends a row with this word for each two numbers by which times of the wait that began with this line were summed.
+/// Appends a row with this word for each two numbers by which times of the wait that began with
+/// this line were summed.
 fn put_pairs(
     out: &mut Vec<u8>,
     word: Word,

@@ -25,7 +25,8 @@ pub(crate) struct WaitStart {
     /// The thread's level, and what it got.
     pub(crate) level: u64,
     pub(crate) gets: u64,
-    /// The number and the level of the mutex's owner, and the line by which it came to own it. 0 if the mutex was free.
+    /// The number and the level of the mutex's owner, and the line by which it came to own it. 0 if
+    /// the mutex was free.
     pub(crate) owner: u64,
     pub(crate) owner_level: u64,
     pub(crate) grant: u64,
@@ -36,14 +37,36 @@ impl Model for WaitStart {
 
     ghost Value = { spec.WaitStart };
 
-    ghost view = { λ s. record { line = s.line; thread = s.thread; mutex = s.mutex; from = s.from; level = s.level; gets = s.gets; owner = s.owner; owner_level = s.owner_level; grant = s.grant } };
+    ghost view = { λ s.
+        record {
+          line = s.line;
+          thread = s.thread;
+          mutex = s.mutex;
+          from = s.from;
+          level = s.level;
+          gets = s.gets;
+          owner = s.owner;
+          owner_level = s.owner_level;
+          grant = s.grant;
+        } };
 
-    ghost inverse = { λ s. record { line = s.line; thread = s.thread; mutex = s.mutex; from = s.from; level = s.level; gets = s.gets; owner = s.owner; owner_level = s.owner_level; grant = s.grant } };
+    ghost inverse = { λ s.
+        record {
+          line = s.line;
+          thread = s.thread;
+          mutex = s.mutex;
+          from = s.from;
+          level = s.level;
+          gets = s.gets;
+          owner = s.owner;
+          owner_level = s.owner_level;
+          grant = s.grant;
+        } };
 }
 
 impl WaitStart {
-    /// Returns how the wait of a thread for a mutex began, which began with this line. Takes what the thread gets, and the
-    /// line by which the owner of the mutex came to own it.
+    /// Returns how the wait of a thread for a mutex began, which began with this line. Takes what
+    /// the thread gets, and the line by which the owner of the mutex came to own it.
     pub(crate) fn of(
         world: &World,
         thread: ThreadPlace,
@@ -74,8 +97,10 @@ impl WaitStart {
 
 /// Returns the number of the owner of a mutex, and its level; 0 and 0 if it is free.
 fn owner_numbers(world: &World, mutex: MutexPlace) -> (u64, u64)
-    ensures number { result.0 ≡ option_map_or (thread_number (world_of world.now)) (owner_of (world_of world.now).state mutex) 0 }
-    ensures level { result.1 ≡ option_map_or (base_of (world_of world.now).state) (owner_of (world_of world.now).state mutex) 0 }
+    ensures number { result.0 ≡ option_map_or
+        (thread_number (world_of world.now)) (owner_of (world_of world.now).state mutex) 0 }
+    ensures level { result.1 ≡ option_map_or
+        (base_of (world_of world.now).state) (owner_of (world_of world.now).state mutex) 0 }
 {
     match world.waits().owner(mutex) {
         Some(owner) => (world.thread_number(owner), world.level(owner)),

@@ -34,8 +34,8 @@ impl WaitStarts {
         }
     }
 
-    /// Goes on by a line, the one with this number. Takes the world after it, its thread, whether that waited before, what it
-    /// gets now, and how ownerships began.
+    /// Goes on by a line, the one with this number. Takes the world after it, its thread, whether
+    /// that waited before, what it gets now, and how ownerships began.
     pub(crate) fn follow(
         &mut self,
         world: &World,
@@ -45,7 +45,8 @@ impl WaitStarts {
         got: u64,
         grants: &Grants,
     ) -> Result<(), AllocError>
-        ensures { IfOk result (λ _. (ms : List Moment) (l : Line) → world_of world.now ≡ after (now ms) l → line ≡ number ms + 1
+        ensures { IfOk result (λ _. (ms : List Moment) (l : Line)
+            → world_of world.now ≡ after (now ms) l → line ≡ number ms + 1
             → thread ≡ actor (now ms) l → ((t : ℕ) → thread ≡ Some t → was ≡ waits t (now ms))
             → ((t : ℕ) → thread ≡ Some t → got ≡ gets (after (now ms) l).state t)
             → AreStarts is_owned grant (kept_of grants.now.starts) (followed_by ms l)

@@ -10,20 +10,25 @@ use Rattle.pim_rows.proofs.affected.affected.Goals as goal
 
 pub returns-then-affects_all : goal.returns-then-affects_all
 returns-then-affects_all c ms is_after are touches opens =
-    same_all (now ms) (world_of c.args.world.now) c.args.line.now is_after are _ c.in_ok-threads.ensures
+    same_all
+    (now ms) (world_of c.args.world.now) c.args.line.now is_after are _ c.in_ok-threads.ensures
 
 pub returns-then-is_idle : goal.returns-then-is_idle
 returns-then-is_idle c ms is_after are touches opens =
     let P : List ℕ → Type 0 = λ ts. AreSame (now ms) (after (now ms) c.args.line.now) ts in
     subst P (sym c.in_ok-threads-2.ensures)
-    (same_touched (now ms) (world_of c.args.world.now) c.args.line.now is_after are (touched_of c.args.world.now)
+    (same_touched (now ms)
+    (world_of c.args.world.now) c.args.line.now is_after are (touched_of c.args.world.now)
     (sym c.keeps_rest.ensures ∙ c.if-keeps_rest.true)
-    (λ cpu. ap (λ (k : Kernel). k.on cpu) (sym c.kernel.ensures) ∙ c.is_idle.ensures c.if-is_idle.true cpu) touches)
+    (λ cpu. ap (λ (k : Kernel). k.on cpu) (sym c.kernel.ensures)
+    ∙ c.is_idle.ensures c.if-is_idle.true cpu) touches)
 
 pub returns : goal.returns
 returns c ms is_after are touches opens =
     let P : List ℕ → Type 0 = λ ts. AreSame (now ms) (after (now ms) c.args.line.now) ts in
     subst P (sym c.in_ok-threads-3.ensures)
-    (same_inverted (now ms) (world_of c.args.world.now) c.args.line.now is_after are (touched_of c.args.world.now)
+    (same_inverted (now ms)
+    (world_of c.args.world.now) c.args.line.now is_after are (touched_of c.args.world.now)
     c.in_ok-inverted.inverted.items (sym c.affects_all.ensures ∙ c.if-affects_all.false) touches
-    (calm_now ms c.args.opens.now.opens.items c.in_ok-inverted.inverted.items opens c.in_ok-inverted.ensures))
+    (calm_now ms c.args.opens.now.opens.items
+    c.in_ok-inverted.inverted.items opens c.in_ok-inverted.ensures))

@@ -14,5 +14,6 @@ pub returns : goal.returns
 returns c t task =
     let h = c.loop-index-test.false in
     let k = c.threads-index-end.ensures in
-    let n : length c.waits.result.now.base ≡ _ = ap (λ (S : State). length S.base) c.waits.ensures in
+    let n : length c.waits.result.now.base ≡ _ =
+    ap (λ (S : State). length S.base) c.waits.ensures in
     c.loop-index.invariant t task.0 (omega (arith, h, k, n, task.1))

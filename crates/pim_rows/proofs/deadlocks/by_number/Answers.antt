@@ -9,7 +9,8 @@ use Rattle.pim_rows.proofs.deadlocks.by_number.Goals as goal
 
 pub loop-index-preserved : goal.loop-index-preserved
 loop-index-preserved c =
-    insert_entry-next _ _ _ _ _ c.loop-index.invariant c.thread_number-number.ensures c.in-Ok.ensures.entries
+    insert_entry-next
+    _ _ _ _ _ c.loop-index.invariant c.thread_number-number.ensures c.in-Ok.ensures.entries
 
 pub returns : goal.returns
 returns c =
@@ -17,4 +18,5 @@ returns c =
     let all : c.loop-index.index ≡ c.in_ok-count.count = omega arith in
     let count = all ∙ c.in_ok-count.ensures in
     c.in_ok-places.ensures ∙ ap values_of c.loop-index.invariant ∙ values_of-keyed number _
-    ∙ ap (λ n. sort_by (is_lower number) (numbers n)) (count ∙ ap (λ (S : State). length S.base) c.waits.ensures)
+    ∙ ap (λ n. sort_by (is_lower number) (numbers n))
+    (count ∙ ap (λ (S : State). length S.base) c.waits.ensures)

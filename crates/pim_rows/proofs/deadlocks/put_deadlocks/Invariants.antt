@@ -9,9 +9,11 @@ use Rattle.pim_rows.proofs.deadlocks.put_deadlocks.Given as goal
 -- the deadlocks whose first threads are among the places so far
 abbrev pub invariant-loop-place : goal.invariant-loop-place
 invariant-loop-place l =
-    let w = world_of l.world in let firsts = filter (is_first_of_cycle w) (take l.place-index l.place-items) in
+    let w = world_of l.world in
+    let firsts = filter (is_first_of_cycle w) (take l.place-index l.place-items) in
     record {
-      text : l.out.items ≡ l.fn.out.items ++ text_of (map (λ t. row words.Deadlock (cycle w t)) firsts);
+      text : l.out.items
+          ≡ l.fn.out.items ++ text_of (map (λ t. row words.Deadlock (cycle w t)) firsts);
       count : l.count ≡ length firsts;
       small : l.count ≤ l.place-index;
     }

@@ -7,7 +7,8 @@ use Rattle.pim_rows.proofs.findings.findings_in.Goals as goal
 use Rattle.pim_rows.proofs.findings.findings_in.Goals.{then-is_bad, else-is_bad}
 
 pub loop-rest-init : goal.loop-rest-init
-loop-rest-init c = (first_moments, starts _ _ _ c.next_line.ensures.lines c.requires, c.new-tracker.ensures)
+loop-rest-init c =
+    (first_moments, starts _ _ _ c.next_line.ensures.lines c.requires, c.new-tracker.ensures)
 
 pub follow-requires : goal.follow-requires
 follow-requires c = record {
@@ -17,8 +18,11 @@ follow-requires c = record {
 
 pub loop-rest-preserved : goal.loop-rest-preserved
 loop-rest-preserved c =
-    let n = next _ _ c.next_line-in-loop-rest.ensures.lines c.loop-rest.invariant.1 in
-    (followed_by c.loop-rest.invariant.0 n.line, n.on, c.in_ok-follow.ensures _ n.line n.is n.may c.loop-rest.invariant.2)
+    let n = next _ _ c.next_line-in-loop-rest.ensures.lines c.loop-rest.invariant.1 in (
+      followed_by c.loop-rest.invariant.0 n.line,
+      n.on,
+      c.in_ok-follow.ensures _ n.line n.is n.may c.loop-rest.invariant.2,
+    )
 
 pub returns : goal.returns
 returns c =

@@ -7,7 +7,8 @@ use Rattle.pim_rows.proofs.findings.findings_in.Given as goal
 
 -- the tracker has followed the lines before the rest
 abbrev pub invariant-loop-rest : goal.invariant-loop-rest
-invariant-loop-rest l = (ms : List Moment) × Underway (lines_of l.fn.bytes) (lines_of l.rest) ms × Tracks l.tracker ms
+invariant-loop-rest l =
+    (ms : List Moment) × Underway (lines_of l.fn.bytes) (lines_of l.rest) ms × Tracks l.tracker ms
 
 -- the bytes that are left
 abbrev pub decreases-loop-rest : goal.decreases-loop-rest

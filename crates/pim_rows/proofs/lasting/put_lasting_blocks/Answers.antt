@@ -5,5 +5,7 @@ use Rattle.pim_rows.proofs.lasting.put_lasting_blocks.Goals as goal
 
 pub loop-place-preserved : goal.loop-place-preserved
 loop-place-preserved c ms w are =
-    text_of_one_more (lasting_block ms) c.args.places.now c.loop-place.place-index c.place-item.result c.args.out.now.items _ _
-    (omega arith) c.place-item.is (c.loop-place.invariant ms w are) (c.in_ok-put_lasting_block.ensures ms w are)
+    text_of_one_more (lasting_block ms)
+    c.args.places.now c.loop-place.place-index c.place-item.result c.args.out.now.items _ _
+    (omega arith) c.place-item.is
+    (c.loop-place.invariant ms w are) (c.in_ok-put_lasting_block.ensures ms w are)

@@ -12,5 +12,8 @@ use Rattle.pim_rows.proofs.lasting.put_lasting_blocks.Given as goal
 -- the rows of the threads so far
 abbrev pub invariant-loop-place : goal.invariant-loop-place
 invariant-loop-place l =
-    (ms : List Moment) → world_of l.fn.world ≡ now ms → AreStarts is_blocked block (kept_of l.fn.blocks.starts) ms
-    → l.out.items ≡ l.fn.out.items ++ text_of (flat_map (lasting_block ms) (take l.place-index l.places))
+    (ms : List Moment)
+    → world_of l.fn.world ≡ now ms
+    → AreStarts is_blocked block (kept_of l.fn.blocks.starts) ms
+    → l.out.items
+    ≡ l.fn.out.items ++ text_of (flat_map (lasting_block ms) (take l.place-index l.places))

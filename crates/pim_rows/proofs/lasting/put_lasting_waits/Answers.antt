@@ -12,9 +12,11 @@ loop-place-preserved c =
     let most = c.in_ok-counts.ensures.most in
     record {
       rows = λ ms w are all.
-          puts_one_more (lasting_wait ms) c.args.places.now c.loop-place.place-index c.place-item.result c.args.out.now.items _ _ _ _ _ _
+          puts_one_more (lasting_wait ms) c.args.places.now
+          c.loop-place.place-index c.place-item.result c.args.out.now.items _ _ _ _ _ _
           (omega arith) c.place-item.is (so_far.rows ms w are all)
-          (c.in_ok-counts.ensures.rows ms w are (λ t w is. all.each t w (ap (λ o. unwrap_or o None) (so_far.left t w is))));
+          (c.in_ok-counts.ensures.rows ms w are
+          (λ t w is. all.each t w (ap (λ o. unwrap_or o None) (so_far.left t w is))));
       left = λ t w is. so_far.left t w (c.put_lasting_wait.ensures.left t w is);
       few = let n = so_far.few in let one = most.0 in omega arith;
       fewer = let n = so_far.fewer in let one = most.1 in omega arith;

@@ -17,10 +17,17 @@ use Rattle.pim_rows.proofs.lasting.put_lasting_waits.Given as goal
 abbrev pub invariant-loop-place : goal.invariant-loop-place
 invariant-loop-place l =
     record {
-      rows : (ms : List Moment) → world_of l.fn.world ≡ now ms → AreStarts waits wait_start (kept_of l.fn.starts.starts) ms
+      rows :
+          (ms : List Moment)
+          → world_of l.fn.world ≡ now ms
+          → AreStarts waits wait_start (kept_of l.fn.starts.starts) ms
           → AreOpen l.fn.opens.opens.items ms
-          → Puts (flat_map (lasting_wait ms) (take l.place-index l.places)) l.fn.out.items l.out.items l.waits l.inverted;
-      left : (t : ℕ) (w : OpenWait) → nth l.opens.opens.items t ≡ Some (Some w) → nth l.fn.opens.opens.items t ≡ Some (Some w);
+          → Puts (flat_map (lasting_wait ms) (take l.place-index l.places))
+          l.fn.out.items l.out.items l.waits l.inverted;
+      left :
+          (t : ℕ) (w : OpenWait)
+          → nth l.opens.opens.items t ≡ Some (Some w)
+          → nth l.fn.opens.opens.items t ≡ Some (Some w);
       few : l.waits ≤ l.place-index;
       fewer : l.inverted ≤ l.place-index;
     }

@@ -5,4 +5,5 @@ use Rattle.pim_rows.proofs.nest_table.put_nests.Given as goal
 -- only the rows that are left are missing
 abbrev pub invariant-loop-key : goal.invariant-loop-key
 invariant-loop-key l =
-    l.out.items ++ text_of (map nests_row l.key-iterator) ≡ l.fn.out.items ++ text_of (map nests_row l.fn.table)
+    l.out.items ++ text_of (map nests_row l.key-iterator)
+    ≡ l.fn.out.items ++ text_of (map nests_row l.fn.table)

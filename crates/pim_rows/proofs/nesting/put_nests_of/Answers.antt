@@ -14,15 +14,18 @@ use Rattle.pim_rows.proofs.nesting.put_nests_of.Goals as goal
 
 pub loop-outer-preserved : goal.loop-outer-preserved
 loop-outer-preserved c =
-    let t = c.args.thread in let m = c.args.mutex in let last = c.loop-outer.last in let outer = c.in-Some.outer in
+    let t = c.args.thread in
+    let m = c.args.mutex in let last = c.loop-outer.last in let outer = c.in-Some.outer in
     let S = (world_of c.args.world.now).state in
-    let first : IsFirstAfter S t last outer = subst (λ T. IsFirstAfter T t last outer) c.waits.ensures c.in-Some.ensures in
+    let first : IsFirstAfter S t last outer =
+    subst (λ T. IsFirstAfter T t last outer) c.waits.ensures c.in-Some.ensures in
     record {
       within = first.mutex.1;
       table = λ ms w line are.
           c.in_ok-put_nest.ensures ms w line are
           ∙ ap (λ rows. put_nest ms t m rows outer) (c.loop-outer.invariant.table ms w line are)
-          ∙ sym (fold_filtered-next (put_nest ms t m) c.args.table.now (λ k. holds (owner_of S k) t) last outer
+          ∙ sym (fold_filtered-next
+          (put_nest ms t m) c.args.table.now (λ k. holds (owner_of S k) t) last outer
           first.later (holds_from (owner_of S outer) t first.owner) first.first);
     }
 
@@ -31,11 +34,13 @@ returns c ms w line are =
     let t = c.args.thread in let m = c.args.mutex in let last = c.loop-outer.last in
     let S = (world_of c.args.world.now).state in
     let none : (k : ℕ) → last < k → holds (owner_of S k) t ≡ false =
-    subst (λ (T : State). (k : ℕ) → last < k → holds (owner_of T k) t ≡ false) c.waits.ensures c.in_default.ensures in
+    subst (λ (T : State). (k : ℕ)
+    → last < k → holds (owner_of T k) t ≡ false) c.waits.ensures c.in_default.ensures in
     let no : owns (now ms) t m ≡ false = sym (c.if-owns.ensures ∙ ap (λ w. owns w t m) w) in
     let rows = c.args.table.now in
     c.loop-outer.invariant.table ms w line are
     ∙ ap (fold (put_nest ms t m) rows)
-    (sym (filter_numbers-until (λ k. holds (owner_of S k) t) last (length S.protocol) c.loop-outer.invariant.within (λ k low high. none k low)))
+    (sym (filter_numbers-until (λ k. holds (owner_of S k) t) last
+    (length S.protocol) c.loop-outer.invariant.within (λ k low high. none k low)))
     ∙ ap (λ (w : World). fold (put_nest ms t m) rows (owned w.state t)) w
     ∙ sym (ap (λ b. if b then rows else fold (put_nest ms t m) rows (owned (now ms).state t)) no)

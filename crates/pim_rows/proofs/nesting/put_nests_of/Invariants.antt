@@ -19,7 +19,8 @@ invariant-loop-outer l =
       within : l.last ≤ length S.protocol;
       table : (ms : List Moment) → world_of l.world ≡ now ms → l.line ≡ number ms + 1
           → AreStarts is_owned grant (kept_of l.grants.starts) ms
-          → l.table ≡ fold (put_nest ms l.thread l.mutex) l.fn.table (filter (λ m. holds (owner_of S m) l.thread) (numbers l.last));
+          → l.table ≡ fold (put_nest ms l.thread l.mutex) l.fn.table
+          (filter (λ m. holds (owner_of S m) l.thread) (numbers l.last));
     }
 
 -- the mutexes that are left

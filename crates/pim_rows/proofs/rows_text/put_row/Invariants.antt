@@ -6,4 +6,5 @@ use Rattle.pim_rows.proofs.rows_text.put_row.Given as goal
 -- the word and the numbers so far
 abbrev pub invariant-loop-number : goal.invariant-loop-number
 invariant-loop-number l =
-    l.out.items ≡ l.fn.out.items ++ (word_text l.fn.word ++ flat_map (λ n. 32 ∷ decimal n) (take l.number-index l.numbers))
+    l.out.items ≡ l.fn.out.items
+    ++ (word_text l.fn.word ++ flat_map (λ n. 32 ∷ decimal n) (take l.number-index l.numbers))

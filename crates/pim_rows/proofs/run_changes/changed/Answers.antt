@@ -6,7 +6,8 @@ use Rattle.pim_rows.proofs.run_changes.changed.Goals as goal
 
 pub returns-then-not-may_run : goal.returns-then-not-may_run
 returns-then-not-may_run c w is_after even thread unrun moved touches =
-    changed_none w (world_of c.args.world.now) c.args.line.now is_after even _ c.new.ensures.items (unrun c.if-not-may_run.true)
+    changed_none w (world_of c.args.world.now) c.args.line.now is_after even _ c.new.ensures.items
+    (unrun c.if-not-may_run.true)
 
 pub returns-then-moves_all : goal.returns-then-moves_all
 returns-then-moves_all c w is_after even thread unrun moved touches =
@@ -15,8 +16,10 @@ returns-then-moves_all c w is_after even thread unrun moved touches =
 
 pub returns : goal.returns
 returns c w is_after even thread unrun moved touches =
-    changed_some w (world_of c.args.world.now) c.args.line.now is_after even c.args.thread (touched_of c.args.world.now)
+    changed_some w (world_of c.args.world.now) c.args.line.now is_after even c.args.thread
+    (touched_of c.args.world.now)
     c.deref.result.now _ (sym c.moves_all.ensures ∙ c.if-moves_all.false) thread touches
     (c.deref.ensures.value ∙ c.in_ok-touched.ensures
-    ∙ ap (λ (ts : List ℕ). option_map_or (λ (t : ℕ). ts ++ t ∷ []) c.args.thread ts) c.touched.ensures)
+    ∙ ap (λ (ts : List ℕ). option_map_or (λ (t : ℕ). ts ++ t ∷ []) c.args.thread ts)
+    c.touched.ensures)
     c.in_ok-threads.ensures

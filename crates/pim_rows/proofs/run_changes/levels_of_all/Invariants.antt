@@ -5,4 +5,5 @@ use Rattle.pim_rows.proofs.run_changes.levels_of_all.Given as goal
 
 -- the levels of the threads so far
 abbrev pub invariant-loop-thread : goal.invariant-loop-thread
-invariant-loop-thread l = l.levels.items ≡ map (levels_of (world_of l.world)) (take l.thread-index l.thread-items)
+invariant-loop-thread l =
+    l.levels.items ≡ map (levels_of (world_of l.world)) (take l.thread-index l.thread-items)

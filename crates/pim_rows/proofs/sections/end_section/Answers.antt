@@ -14,4 +14,5 @@ returns c ms l w at was are off old =
     c.in_ok-put_section.ensures (began (is_owned m) ms) (followed_by ms l) w (are m owned) off
     ∙ ap (put_section m (began (is_owned m) ms) (followed_by ms l)) old
     ∙ sym (sections_after ms l m true false (sym at ∙ c.in-Some.is) owned
-    (sym (c.if-is_some.ensures ∙ ap is_some (c.owner.ensures ∙ ap (λ (S : State). owner_of S m) c.waits.ensures ∙ ap (λ (w : World). owner_of w.state m) w))))
+    (sym (c.if-is_some.ensures ∙ ap is_some (c.owner.ensures ∙ ap
+    (λ (S : State). owner_of S m) c.waits.ensures ∙ ap (λ (w : World). owner_of w.state m) w))))

@@ -14,5 +14,8 @@ use Rattle.pim_rows.proofs.sections.put_lasting_sections.Given as goal
 -- the sections at the places so far
 abbrev pub invariant-loop-i : goal.invariant-loop-i
 invariant-loop-i l =
-    (ms : List Moment) → world_of l.world ≡ now ms → AreStarts is_owned grant (kept_of l.grants.starts) ms
-    → AreOffTimes (kept_of l.off_times.starts) ms → l.table ≡ fold (lasting_section ms) l.fn.table (numbers l.i)
+    (ms : List Moment)
+    → world_of l.world ≡ now ms
+    → AreStarts is_owned grant (kept_of l.grants.starts) ms
+    → AreOffTimes (kept_of l.off_times.starts) ms
+    → l.table ≡ fold (lasting_section ms) l.fn.table (numbers l.i)

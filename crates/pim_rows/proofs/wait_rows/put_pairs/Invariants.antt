@@ -9,4 +9,5 @@ abbrev pub invariant-loop-key : goal.invariant-loop-key
 invariant-loop-key l =
     l.out.items
     ≡ l.fn.out.items
-    ++ text_of (map (λ (x : Key × ℕ). row l.fn.word (l.fn.line ∷ x.0.0 ∷ x.0.1 ∷ x.1 ∷ [])) (take l.key-index l.rows))
+    ++ text_of (map (λ (x : Key × ℕ). row l.fn.word (l.fn.line ∷ x.0.0 ∷ x.0.1 ∷ x.1 ∷ []))
+    (take l.key-index l.rows))

@@ -5,4 +5,5 @@ use Rattle.pim_rows.proofs.levels.Levels.follow.Given as goal
 
 -- what the changes so far say is kept
 abbrev pub invariant-loop-change : goal.invariant-loop-change
-invariant-loop-change l = kept_of l.self.apart ≡ with_levels (kept_of l.fn.self.apart) (take l.change-index l.changes)
+invariant-loop-change l =
+    kept_of l.self.apart ≡ with_levels (kept_of l.fn.self.apart) (take l.change-index l.changes)

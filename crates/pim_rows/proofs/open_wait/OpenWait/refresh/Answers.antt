@@ -15,7 +15,8 @@ returns-then-is c = record {
 pub returns : goal.returns
 returns c = record {
   goes = λ t ms m follows later shows.
-      Follows-other c.args.self.now _ t ms m c.args.clock c.args.standing c.in_ok-with_time.ensures follows later shows;
+      Follows-other c.args.self.now
+      _ t ms m c.args.clock c.args.standing c.in_ok-with_time.ensures follows later shows;
   current = refl;
   again = λ e. absurd (let no : false ≡ true = c.if-is.ensures.1 e in cc);
   until = record {

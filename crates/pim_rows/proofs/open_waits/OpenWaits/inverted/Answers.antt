@@ -7,10 +7,12 @@ loop-index-init c = calm_none c.args.self.now.opens.items _
 
 pub loop-index-preserved : goal.loop-index-preserved
 loop-index-preserved c =
-    calm_more c.args.self.now.opens.items _ c.note.new.threads.items c.loop-index.index c.in_ok-note.ensures.kept
+    calm_more c.args.self.now.opens.items
+    _ c.note.new.threads.items c.loop-index.index c.in_ok-note.ensures.kept
     c.in_ok-note.ensures.here c.loop-index.invariant
 
 pub returns : goal.returns
 returns c =
     calm_all c.args.self.now.opens.items _ c.loop-index.index
-    (let h = c.loop-index-test.false in let k = c.len-index-end.ensures in omega (arith, h, k)) c.loop-index.invariant
+    (let h = c.loop-index-test.false in
+    let k = c.len-index-end.ensures in omega (arith, h, k)) c.loop-index.invariant

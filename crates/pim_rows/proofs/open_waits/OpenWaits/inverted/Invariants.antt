@@ -5,4 +5,5 @@ use Rattle.pim_rows.proofs.open_waits.OpenWaits.inverted.Given as goal
 
 -- the inverted waits so far
 abbrev pub invariant-loop-index : goal.invariant-loop-index
-invariant-loop-index l = (t : ℕ) → t ≤ l.index → contains l.threads.items t ≡ false → IsCalm (nth l.self.opens.items t)
+invariant-loop-index l =
+    (t : ℕ) → t ≤ l.index → contains l.threads.items t ≡ false → IsCalm (nth l.self.opens.items t)

@@ -6,7 +6,8 @@ use Rattle.pim_rows.proofs.open_waits.OpenWaits.note.Goals as goal
 
 pub returns-in-Ok-clause-kept : goal.returns-in-Ok-clause-kept
 returns-in-Ok-clause-kept c t out =
-    (outside_both c.args.threads.now.items _ t (ap (λ (ts : List ℕ). contains ts t) (sym c.in-Ok.ensures.items) ∙ out)).0
+    (outside_both c.args.threads.now.items _ t
+    (ap (λ (ts : List ℕ). contains ts t) (sym c.in-Ok.ensures.items) ∙ out)).0
 
 pub returns-in-Ok-clause-here : goal.returns-in-Ok-clause-here
 returns-in-Ok-clause-here c out =

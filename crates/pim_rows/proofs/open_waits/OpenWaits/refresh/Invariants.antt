@@ -5,4 +5,5 @@ use Rattle.pim_rows.proofs.open_waits.OpenWaits.refresh.Given as goal
 
 abbrev pub invariant-loop-thread : goal.invariant-loop-thread
 invariant-loop-thread l =
-    SoFar (world_of l.world) (take l.thread-index l.affected) l.initial.self.opens.items l.self.opens.items
+    SoFar (world_of l.world)
+    (take l.thread-index l.affected) l.initial.self.opens.items l.self.opens.items

@@ -7,4 +7,5 @@ use Rattle.pim_rows.proofs.runs.Runs.put_all_lasting.Given as goal
 -- the rows of the threads so far
 abbrev pub invariant-loop-one : goal.invariant-loop-one
 invariant-loop-one l =
-    l.out.items ≡ l.fn.out.items ++ text_of (all_lasting (kept_of l.self.starts) l.time (take l.one-index l.threads))
+    l.out.items ≡ l.fn.out.items
+    ++ text_of (all_lasting (kept_of l.self.starts) l.time (take l.one-index l.threads))

@@ -5,5 +5,6 @@ use Rattle.pim_rows.proofs.runs.Runs.put_lasting.Goals as goal
 
 pub returns : goal.returns
 returns c ms w levels are =
-    text_lasting ms (kept_of c.args.self.now.starts) (world_of c.args.world.now) c.args.threads.now c.clock.result _ _
+    text_lasting ms (kept_of c.args.self.now.starts)
+    (world_of c.args.world.now) c.args.threads.now c.clock.result _ _
     w levels are c.clock.ensures c.in_ok-put_all_lasting.ensures

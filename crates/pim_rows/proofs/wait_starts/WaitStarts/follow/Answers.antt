@@ -14,16 +14,20 @@ use Rattle.pim_rows.proofs.wait_starts.WaitStarts.follow.Goals as goal
 
 pub returns-then-was : goal.returns-then-was
 returns-then-was c ms l w line thread was got grants are =
-    waits_followed wait_start ms l (kept_of c.args.self.now.starts) (kept_of c.args.self.now.starts) c.in-Some.thread true _
-    (sym thread ∙ c.in-Some.is) (sym c.if-was.true ∙ was c.in-Some.thread c.in-Some.is) refl refl are
+    waits_followed wait_start ms l
+    (kept_of c.args.self.now.starts) (kept_of c.args.self.now.starts) c.in-Some.thread true _
+    (sym thread ∙ c.in-Some.is)
+    (sym c.if-was.true ∙ was c.in-Some.thread c.in-Some.is) refl refl are
 
 pub returns-in_default-awaited : goal.returns-in_default-awaited
 returns-in_default-awaited c ms l w line thread was got grants are =
     let t = c.in-Some.thread in
-    waits_followed wait_start ms l (kept_of c.args.self.now.starts) (kept_of c.args.self.now.starts) t false false
+    waits_followed wait_start ms l
+    (kept_of c.args.self.now.starts) (kept_of c.args.self.now.starts) t false false
     (sym thread ∙ c.in-Some.is) (sym c.if-was.false ∙ was t c.in-Some.is)
     (ap is_some
-    (c.in_default-awaited.ensures ∙ ap (λ (S : State). wait_of S t) c.waits.ensures ∙ ap (λ (w : World). wait_of w.state t) w))
+    (c.in_default-awaited.ensures ∙ ap (λ (S : State). wait_of S t) c.waits.ensures
+    ∙ ap (λ (w : World). wait_of w.state t) w))
     refl are
 
 pub returns : goal.returns
@@ -38,10 +42,12 @@ returns c ms l w line thread was got grants are =
     (got t c.in-Some.is ∙ ap (λ (w : World). gets w.state t) (sym w))
     (c.line_of-grant.ensures (followed_by ms l) w grants
     ∙ ap (λ (w : World). option_map_or (λ o. since m) (owner_of w.state m) 0) (sym w)) in
-    waits_followed wait_start ms l (kept_of c.args.self.now.starts) (kept_of c.begin.new.self) t false true
+    waits_followed wait_start ms l
+    (kept_of c.args.self.now.starts) (kept_of c.begin.new.self) t false true
     (sym thread ∙ c.in-Some.is) (sym c.if-was.false ∙ was t c.in-Some.is)
     (ap is_some (awaits ∙ ap (λ (w : World). wait_of w.state t) w))
     (c.in_ok-begin.ensures
     ∙ rw c.thread.view_is
     (ap (λ (s : WaitStart). set t (Some s) (kept_of c.args.self.now.starts))
-    (started ∙ ap (wait_at t c.args.line since) w ∙ ap (λ n. wait_at t n since (after (now ms) l)) line))) are
+    (started ∙ ap (wait_at t c.args.line since) w
+    ∙ ap (λ n. wait_at t n since (after (now ms) l)) line))) are
