@@ -3,16 +3,26 @@
 docs/FINDINGS.md defines them, and says what they assume. A section counts with what its thread
 used, without the time for which that thread was on no CPU.
 """
+from bisect import bisect_left
 from collections import defaultdict, namedtuple
 
 Bound = namedtuple("Bound", "thread level inherit protect waited")
 
 
+def below(level, levels, most):
+    """Returns the most that was used at a level below this one, of what `greatest` returns."""
+    at = bisect_left(levels, level)
+    return most[at - 1] if at else 0
+
+
 class Bounds:
     def __init__(self, facts, rows):
-        self.highest = {number: facts.highest(number) for number in facts.threads}
         self.users, self.top, self.own = defaultdict(dict), defaultdict(int), defaultdict(set)
-        self.waited, self.inner, self.known = defaultdict(int), defaultdict(set), {}
+        self.waited, self.inner, self.of_level = defaultdict(int), defaultdict(set), {}
+        for thread in facts.threads:
+            level = facts.highest(thread)
+            if 1 <= level <= 99:
+                self.of_level.setdefault(level, []).append(thread)
         for one in rows.sections:
             self.use(one.thread, one.mutex, one.level, one.used)
         for wait in rows.waits:
@@ -28,41 +38,82 @@ class Bounds:
         self.top[mutex] = max(self.top[mutex], level)
         self.own[thread].add((mutex, level))
 
-    def reached(self, mutexes):
-        """Returns these mutexes, and what was asked for while one that is reached was owned."""
-        found, todo = set(mutexes), list(mutexes)
+    def reached(self, mutexes, known=()):
+        """Returns these mutexes, and what was asked for while one that is reached was owned.
+
+        What is reached from those that are known isn't looked at again.
+        """
+        found = set(mutexes).difference(known)
+        todo = list(found)
         while todo:
-            more = self.inner[todo.pop()] - found
+            more = self.inner[todo.pop()].difference(found, known)
             found |= more
             todo += more
         return found
 
-    def of(self, thread):
-        level = self.highest[thread]
-        own = {mutex for mutex, _ in self.own[thread]}
-        is_usual = all(at == level for _, at in self.own[thread])
-        if not is_usual:
-            inherit, protect = self.blocking(thread, level, own)
-        elif level in self.known:
-            inherit, protect = self.known[level]
-        else:
-            inherit, protect = self.known[level] = self.blocking(thread, level, own)
-        return Bound(thread, level, inherit, protect, self.waited[thread])
+    def levels(self, levels):
+        """Yields each level, the highest first, and what is used by threads below it.
 
-    def blocking(self, thread, level, own):
-        """Returns for how long lower threads can block one, under INHERIT and under PROTECT."""
-        at_level = own | {mutex for mutex, top in self.top.items() if top >= level}
-        threads, mutexes, most = {}, {}, 0
-        for mutex in self.reached(at_level):
-            for (one, at), used in self.users[mutex].items():
-                if one == thread or at >= level:
-                    continue
+        That is by thread, and by mutex, what it used most; and the mutexes used at the level or
+        above. It is of what these lead to. From level to level more mutexes count, and each is
+        read once.
+        """
+        reached, at_level, used_by = {}, [], {}
+        tops = sorted(self.top, key=self.top.get)
+        for level in sorted(levels, reverse=True):
+            first = len(at_level)
+            while tops and self.top[tops[-1]] >= level:
+                at_level.append(tops.pop())
+            for mutex in self.reached(at_level[first:], reached):
+                reached[mutex] = self.greatest(mutex)
+                for key, used in self.users[mutex].items():
+                    used_by[key] = max(used_by.get(key, 0), used)
+            threads = {}
+            for (thread, at), used in used_by.items():
+                if at < level:
+                    threads[thread] = max(threads.get(thread, 0), used)
+            mutexes = {mutex: below(level, *most) for mutex, most in reached.items()}
+            yield level, threads, mutexes, at_level
+
+    def greatest(self, mutex):
+        """Returns the levels at which a mutex is used, and the most used at each or a lower one."""
+        levels, most = [], []
+        for (_, level), used in sorted(self.users[mutex].items(), key=lambda one: one[0][1]):
+            levels.append(level)
+            most.append(max(used, most[-1] if most else 0))
+        return levels, most
+
+    def without(self, thread, level, threads, mutexes):
+        """Returns the same two for a thread that used mutexes at a lower level of its own, too.
+
+        What leads from its mutexes is added, and what it used itself isn't counted.
+        """
+        own = {mutex for mutex, _ in self.own[thread]}
+        threads, mutexes, beyond = {**threads}, {**mutexes}, self.reached(own, mutexes)
+        threads.pop(thread, None)
+        for mutex in own | beyond:
+            uses = [(one, used) for (one, at), used in self.users[mutex].items()
+                    if at < level and one != thread]
+            mutexes[mutex] = max((used for _, used in uses), default=0)
+            for one, used in uses if mutex in beyond else ():
                 threads[one] = max(threads.get(one, 0), used)
-                mutexes[mutex] = max(mutexes.get(mutex, 0), used)
-                most = max(most, used if mutex in at_level else 0)
-        return min(sum(threads.values()), sum(mutexes.values())), most
+        return threads, mutexes
+
+    def at(self, level, threads, mutexes, at_level):
+        """Yields the bounds of the threads of a level."""
+        def bound(threads, mutexes, used):
+            return (min(sum(threads.values()), sum(mutexes.values())),
+                    max(map(mutexes.get, used), default=0))
+
+        usual = bound(threads, mutexes, at_level)
+        for thread in self.of_level[level]:
+            found = usual
+            if any(at != level for _, at in self.own[thread]):
+                own = self.without(thread, level, threads, mutexes)
+                found = bound(*own, [*at_level, *(mutex for mutex, _ in self.own[thread])])
+            yield Bound(thread, level, *found, self.waited[thread])
 
     def all(self):
         """Returns the bounds of real-time threads that can be blocked, the most urgent first."""
-        found = [self.of(thread) for thread, level in self.highest.items() if 1 <= level <= 99]
-        return sorted((one for one in found if one.inherit), key=lambda one: -one.level)
+        found = [one for parts in self.levels(self.of_level) for one in self.at(*parts)]
+        return [one for one in found if one.inherit]

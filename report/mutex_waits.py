@@ -47,7 +47,9 @@ class MutexWaits:
         """
         late = [wait for wait in self.waits if wait.inverted]
         own = {wait.line: wait for wait in late
-               if wait.level > min(part.gets for part in wait.parts)}
+               if any(part.gets < wait.level for part in wait.parts)}
+        if len(own) == len(late):
+            return late
         ends = {}
         for wait in sorted(own.values(), key=lambda wait: wait.begin):
             for runner in {part.runner for part in wait.parts}:
@@ -75,15 +77,25 @@ class MutexWaits:
 
         for group in similar(self.recording, self.late_waits, blamed_of, size_of):
             found, worst = finding_of(self.recording, "late", group, size_of), group[0]
-            parts = sorted((part for wait in group for part in wait.parts),
-                           key=lambda part: -part.time)
-            found.by = first_of((part.runner, part.gets) for part in parts)
+            found.by = self.runners(group)
             found.why = self.reason(worst)
             found.advice = self.advice(group, list(dict.fromkeys(map(blamed_of, group))))
             found.meanwhile = sorted(worst.meanwhile, key=lambda one: -one.time)
             if worst.stalled:
                 found.lines.append(f"for {duration(worst.stalled)} of it {self.held(worst)}")
             yield found
+
+    @staticmethod
+    def runners(group):
+        """Returns the runners of some inverted waits, that of the longest part first."""
+        longest = {}
+        for wait in group:
+            for part in wait.parts:
+                had = longest.get(part.runner)
+                if had is None or part.time > had.time:
+                    longest[part.runner] = part
+        parts = sorted(longest.values(), key=lambda part: -part.time)
+        return [(part.runner, part.gets) for part in parts]
 
     def reason(self, wait):
         """Says why nothing, or too little, was passed on in a wait."""

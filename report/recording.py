@@ -1,4 +1,7 @@
 """A recording: its facts, the rows that follow, and what both are called."""
+from bisect import bisect_left, bisect_right
+from heapq import nlargest
+
 from choice import Choice
 from names import Names
 from words import place_and_function, without_function
@@ -15,9 +18,17 @@ class Recording:
         self.facts, self.all_rows, self.names = facts, rows, Names(facts)
         self.choice = Choice(self, thread, mutex, since)
         self.rows = rows if self.choice.is_all else self.choice.of(rows)
-        self.waits_of = {}
-        for wait in rows.waits:
-            self.waits_of.setdefault(wait.thread, []).append(wait)
+        self.waits_of = self.by_thread(rows.waits)
+
+    @staticmethod
+    def by_thread(waits):
+        """Returns by thread its waits in the order of their lines, and these lines."""
+        found = {}
+        for wait in sorted(waits, key=lambda wait: wait.line):
+            ones, lines = found.setdefault(wait.thread, ([], []))
+            ones.append(wait)
+            lines.append(wait.line)
+        return found
 
     def where(self, line):
         """Returns the place of a line as 'mix.c:17 (high)', or an empty text."""
@@ -70,7 +81,12 @@ class Recording:
         return []
 
     def waits_between(self, thread, line, until):
-        """Returns the longest waits of a thread that are there at some line of these."""
-        found = [wait for wait in self.waits_of.get(thread, ())
-                 if wait.line < until and (not wait.until or wait.until > line)]
-        return sorted(found, key=lambda wait: -wait.lasted)[:MOST_WAITS]
+        """Returns the longest waits of a thread that are there at some line of these.
+
+        They are in the order of their lines, for a thread waits for one mutex at a time.
+        """
+        waits, lines = self.waits_of.get(thread, ((), ()))
+        first, last = bisect_right(lines, line), bisect_left(lines, until)
+        if first and not 0 < waits[first - 1].until <= line:
+            first -= 1
+        return nlargest(MOST_WAITS, waits[first:last], key=lambda wait: wait.lasted)

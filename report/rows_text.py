@@ -73,21 +73,24 @@ class Rows:
                  "section": (Section, rows.sections), "nests": (Nest, rows.nests)}
         parts = {"inverted": (Part, "parts"), "stalled": (Stall, "stalls"),
                  "meanwhile": (Meanwhile, "meanwhile")}
+        wait = None
         for line in text.splitlines():
             word, _, rest = line.partition(" ")
-            numbers = list(map(int, rest.split()))
-            if word == "wait":
-                rows.waits.append(Wait(numbers))
-            elif word in parts:
+            numbers = map(int, rest.split())
+            if word in parts:
                 kind, name = parts[word]
-                getattr(rows.waits[-1], name).append(kind._make(numbers[1:]))
+                next(numbers)  # the line of the wait, which is the last one
+                getattr(wait, name).append(kind._make(numbers))
+            elif word == "wait":
+                wait = Wait(numbers)
+                rows.waits.append(wait)
             elif word in kinds:
                 kind, into = kinds[word]
                 into.append(kind._make(numbers))
             elif word == "deadlock":
-                rows.deadlocks.append(numbers)
+                rows.deadlocks.append(list(numbers))
             else:
-                rows.lines, rows.ended = numbers[:2]
+                rows.lines, rows.ended, *_ = numbers
         return rows
 
     def open_waits(self):

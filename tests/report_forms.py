@@ -3,19 +3,43 @@ import base64
 import html
 import json
 import re
+import time
 import zlib
 from collections import Counter, defaultdict
 
 import pack
+from bounds import Bounds
 from checks import ROOT, check
+from facts_text import Facts
 from html_page import page_of
 from json_report import json_of
 from lines import line_of, lines_of
+from recording import Recording
+from rows_text import Rows, Wait
 from stretches import Stretches
 from terminal import Terminal
 from words import duration
 from world import World
 
+# What the first thread used at a lower level doesn't block it: the second one does, for 20 ns.
+RAISED = b"""facts 1
+thread 1 10 high
+thread 2 5 low
+mutex 1 inherit a
+mutex 2 inherit b
+0 1 granted 1
+7 1 released 1
+7 1 priority 50
+8 1 granted 1
+8 1 released 1
+8 1 granted 2
+8 1 released 2
+10 2 granted 1
+30 2 released 1
+30 2 granted 2
+50 2 released 2
+50 end
+"""
 TIME = r"([\d.,]+ (?:s|ms|us|ns))"
 PAGE = (ROOT / "docs/REPORT.md").read_text()
 
@@ -436,3 +460,41 @@ def ways(found):
                 is_there = way in there[wait.line] and way[-1:] and way[-1][1] == runner
                 wrong += [] if is_there else [f"{seed}: line {wait.line}"]
     check("ways to runners", ", ".join(wrong[:5]) or (None if chains > 9 else "no chains"))
+
+
+def far_ways():
+    """Of the waits of a thread only those are looked at that are there between two lines."""
+    facts = Facts(b"facts 1\nthread 1 5 low\nmutex 1 none m\n" + b"0 1 took 1\n")
+    listed, lines = Rows(), 80_000
+    listed.waits = [Wait((line, line + 3, 1, 1, line, 1 + line * 7 % 31, 5, 5, 0, 0, 0, 0, 0, 0))
+                    for line in range(10, lines, 4)] + [Wait((lines, 0, 1, 1, 0, 9, *[0] * 7, 0))]
+    found, wrong = Recording(facts, listed), []
+    for line, until in ((9, 11), (10, 12), (12, 15), (13, 14), (100, 900), (1, lines + 1)):
+        there = [wait.lasted for wait in listed.waits
+                 if wait.line < until and (not wait.until or wait.until > line)]
+        got = [wait.lasted for wait in found.waits_between(1, line, until)]
+        wrong += [] if got == sorted(there, reverse=True)[:20] else [f"{line} to {until}: {got}"]
+    check("the longest waits between two lines", ", ".join(wrong))
+    begin = time.process_time()
+    for line in range(5_000):
+        found.waits_between(1, line, line + 9)
+    took = time.process_time() - begin  # 0.02 s, or 5 s if each wait is looked at
+    check("5,000 looks for some of 20,000 waits", None if took < 1 else f"{took:.2f} s of 1")
+
+
+def many_bounds():
+    """The bounds of threads that used mutexes at two levels don't look at all sections each."""
+    facts, rows = ["facts 1"], []
+    facts += [f"thread {t} 1 t{t}" for t in range(1, 301)]
+    facts += [f"mutex {m} inherit m{m}" for m in range(1, 601)]
+    facts += [f"0 {t} priority {2 + t % 90}" for t in range(1, 301)]
+    for at in range(24_000):
+        thread, mutex = 1 + at % 300, 1 + (at + at // 300 * 7) % 600
+        level = 1 if at % 5 else 2 + thread % 90
+        rows.append(f"section {thread} {mutex} {level} 1 {at % 97} 2 {at % 97}")
+    rows.append(f"end {len(facts)} 0 0 0 0")
+    one = Recording(Facts("\n".join(facts).encode()), Rows.read("\n".join(rows)))
+    begin = time.process_time()
+    Bounds(one.facts, one.rows).all()
+    took = time.process_time() - begin  # 0.6 s, or 7 s if each thread looks at each section
+    check("the bounds of 300 threads and 600 mutexes", None if took < 3 else f"{took:.2f} s of 3")
