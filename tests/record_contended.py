@@ -126,7 +126,7 @@ def laws(reader, broken, folder):
     for command in ("random 3 300", "random 4 300 ordinary", "signals", "robust", "recursive", "ceiling", "condition",
                     "calls", "forks", "rawforks", "many", "passes"):
         path, protected = pathlib.Path(folder, "run"), []
-        for options in ([], [CONTENDED]):
+        for options in ([], [CONTENDED]) if command == "passes" else ([CONTENDED],):
             done = run(RECORD / "pim-record", "-o", path, "--last", "16M", *options, PROGRAMS / command.split()[0],
                        *command.split()[1:])
             log = read(reader, path)
