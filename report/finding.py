@@ -79,7 +79,7 @@ def finding_of(recording, kind, group, size_of):
     """Returns a finding of similar waits for mutexes."""
     worst, mutexes = group[0], list(dict.fromkeys(wait.mutex for wait in group))
     return Finding(
-        kind=kind, who=distinct((wait.thread, wait.level) for wait in group),
+        kind=kind, who=distinct((wait.thread, recording.level_of(wait)) for wait in group),
         by=distinct((wait.owner, wait.owner_level) for wait in group if wait.owner),
         what=recording.names.mutexes(mutexes), mutexes=mutexes, waits=group, times=len(group),
         protocol=recording.facts.mutexes[worst.mutex].protocol,

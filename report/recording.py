@@ -30,6 +30,13 @@ class Recording:
             lines.append(wait.line)
         return found
 
+    def level_of(self, wait):
+        """Returns the highest level that a thread had while it waited for a mutex."""
+        changes = self.facts.levels.get(wait.thread, ())
+        until = wait.until or self.all_rows.lines + 1
+        later = changes[bisect_right(changes, (wait.line, 101)):bisect_left(changes, (until, 0))]
+        return max([wait.level, *(level for _, level in later)])
+
     def where(self, line):
         """Returns the place of a line as 'mix.c:17 (high)', or an empty text."""
         return place_and_function(self.facts.place(line))

@@ -67,6 +67,10 @@ class Verdict:
         found = {row.level < row.gets for one in ran for row in one.waits}
         return "another" if len(found) > 1 else "a lower" if True in found else "a higher"
 
+    def waiter(self, wait):
+        """Returns the thread that waited for a mutex, with its highest level meanwhile."""
+        return self.names.at(wait.thread, self.recording.level_of(wait))
+
     def of_late(self, late):
         who = list(dict.fromkeys(thread for found in late for thread, _ in found.who))
         blamed = dict.fromkeys(part.mutex for found in late for wait in found.waits
@@ -77,7 +81,7 @@ class Verdict:
         worst = found.waits[0]
         named = f" ({self.names.mutex(worst.mutex)})" if len(blamed) > 1 else ""
         part = worst.worst_part
-        line = (f"Worst: {self.names.at(worst.thread, worst.level)} waited {duration(worst.lasted)}"
+        line = (f"Worst: {self.waiter(worst)} waited {duration(worst.lasted)}"
                 f" for {self.names.at(part.runner, part.gets)}{self.short(found.where)}{named}")
         if found.meanwhile:
             parts = [(self.names.at(one.thread, one.level), one.time) for one in found.meanwhile]
@@ -126,12 +130,12 @@ class Verdict:
             worst = bounded[0].waits[0]
             by = f" for {self.names.at(worst.owner, worst.owner_level)}" if worst.owner else ""
             lines.append(
-                f"The longest wait for a lower thread: {self.names.at(worst.thread, worst.level)},"
+                f"The longest wait for a lower thread: {self.waiter(worst)},"
                 f" {duration(worst.lower)}{by} at {self.names.mutex(worst.mutex)}.")
         elif waits and not look:
             worst = max(waits, key=lambda wait: wait.lasted)
             lines.append(
-                f"The longest wait: {self.names.at(worst.thread, worst.level)},"
+                f"The longest wait: {self.waiter(worst)},"
                 f" {duration(worst.lasted)} at {self.names.mutex(worst.mutex)}; nobody waited for"
                 " a lower thread.")
         return lines + [f"Worth a look: {self.to_look_at(one)}." for one in look[:1]]
@@ -141,11 +145,10 @@ class Verdict:
             return (f"{found.what} are locked in both orders, so that"
                     f" {self.names.threads(found.who, levels=False)} can deadlock")
         worst = found.waits[0]
-        who = self.names.at(worst.thread, worst.level)
         if found.kind == "stalled":
-            return (f"{who} waited {duration(worst.lasted)}{self.short(found.where)} for"
-                    f" {self.names.mutex(worst.mutex)}, for {duration(worst.stalled)} of it because"
-                    f" {found.why}")
-        gave = self.findings.others.gave(worst)
+            return (f"{self.waiter(worst)} waited {duration(worst.lasted)}"
+                    f"{self.short(found.where)} for {self.names.mutex(worst.mutex)}, for"
+                    f" {duration(worst.stalled)} of it because {found.why}")
+        who, gave = self.names.at(worst.thread, worst.level), self.findings.others.gave(worst)
         return (f"{who} waited {duration(worst.lasted)}{self.short(found.where)} for {found.what},"
                 f" until {self.names.at(worst.by, worst.by_level)} {gave}")
