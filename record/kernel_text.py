@@ -52,7 +52,7 @@ def event_of(version, number, line):
     time, cpu, task = map(int, parts[:3])
     numbers = (NUMBER, SIGNED, PRIORITY)
     fields = zip(FIELDS[what], parts[4:])
-    values = [int(word) if form in numbers else word.decode() for form, word in fields]
+    values = tuple(int(word) if form in numbers else word.decode() for form, word in fields)
     return Event(number, time, cpu, task, what, values)
 
 

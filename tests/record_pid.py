@@ -112,7 +112,7 @@ def waits_attached(recording, program, said):
     text = recording.text()
     check("attached: the head has the process", difference((text.head.process, text.head.version), (program.pid, 2)))
     of_early = {event.what for event in text.events if event.task == early and event.what in ("wait", "return")}
-    woken = {event.what for event in text.events if event.what == "wake" and event.values == [early]}
+    woken = {event.what for event in text.events if event.what == "wake" and event.values == (early,)}
     ran = any(event.what == "switch" and event.task == early for event in text.events)
     check("attached: a wait that had begun before", difference((of_early, woken, ran), (set(), set(), True)))
     ran = any(event.what == "switch" and event.task == new for event in text.events)
