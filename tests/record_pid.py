@@ -202,10 +202,15 @@ def names(folder):
     before = (pathlib.Path(folder, "run"), pathlib.Path(folder, "run.kernel"))
     run(RECORD / "pim-record", "--kernel", "-o", before[0], "true")
     there = [path.read_bytes() for path in before]
-    done = run(RECORD / "pim-record", "-p", program.pid, "-f", "1ms", "-o", before[0])
-    now = [path.read_bytes() for path in before]
-    got = (done.returncode, done.stderr, now[0] == there[0], now[1] == there[1], faults_of(now[1]))
-    check("--pid replaces the kernel's events alone", difference(got, (0, "", True, False, [])))
+    attached_again = RECORD / "pim-record", "-p", program.pid, "-f", "1ms", "-o", before[0]
+    done = run(*attached_again)
+    got = done.returncode, " is there: --pid writes no log" in done.stderr, [path.read_bytes() for path in before]
+    check("--pid leaves a log of its name alone", difference(got, (2, True, there)))
+    before[0].unlink()
+    done = run(*attached_again)
+    now = before[1].read_bytes()
+    got = (done.returncode, done.stderr, before[0].exists(), now == there[1], faults_of(now))
+    check("--pid replaces the kernel's events", difference(got, (0, "", False, False, [])))
     empty = pathlib.Path(folder, "empty")
     empty.mkdir()
     done = run(RECORD / "pim-record", "--pid", program.pid, "--for", "1ms", cwd=empty)
@@ -283,7 +288,7 @@ def not_there(folder):
     numbers = {"a process that isn't there": (gone, f"there is no process {gone}; nothing was recorded"),
                "a process that has ended": (unseen.pid, "it has ended; nothing was recorded"),
                "a thread": (thread, "it is a thread, and not a process's number; nothing was recorded")}
-    older = {"none": "", "none.1": "", "none.kernel": "pim-kernel 2\n"}
+    older = {"none.1": "", "none.kernel": "pim-kernel 2\n"}
     for file, text in older.items():
         pathlib.Path(folder, file).write_text(text)
     for name, (number, why) in numbers.items():
