@@ -91,9 +91,10 @@ static struct store *make_store(int channel, uint32_t process) {
         state.report.others++;
         return NULL;
     }
-    struct store *made = state.first;
+    struct store *made = state.first ? state.first : make_later_store(process);
     state.first = NULL;
-    return made ? made : make_later_store(process);
+    if (made) made->sees_threads = (uint32_t)its.pid == process;
+    return made;
 }
 
 /* Answers a request. Returns whether the visitor is to stay until it has mapped the memory. */

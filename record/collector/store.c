@@ -5,6 +5,7 @@
 
 #include <errno.h>
 #include <fcntl.h>
+#include <sched.h>
 #include <stdio.h>
 #include <stdlib.h>
 #include <string.h>
@@ -288,6 +289,20 @@ static void collect_into_file(struct store *of, struct shared *shared, const str
     give_back(of, shared, found->slot, to);
 }
 
+/* Puts the level of a thread that couldn't ask for it, under a seccomp filter, if it is there. */
+static void put_level(const struct store *of, uint64_t slot) {
+    const struct record *chunk = of->view->slots[slot], *first = &chunk[1];
+    const struct chunk_head *head = (const struct chunk_head *)chunk;
+    struct sched_param param = { .sched_priority = 0 };
+    bool is_wanted = of->sees_threads && head->index == 0 && number_of(first) &&
+                     first->event == EVENT_THREAD && first->detail == POLICY_KEPT;
+    int policy = is_wanted ? sched_getscheduler((pid_t)head->task) : -1;
+    if (policy < 0 || sched_getparam((pid_t)head->task, &param) != 0) return;
+    uint16_t detail = (uint16_t)(((unsigned)policy & 15) | (unsigned)param.sched_priority << 8);
+    uint64_t offset = sizeof(struct shared) + slot * CHUNK_BYTES + sizeof *chunk;
+    (void)!write_all(of->memory, &detail, sizeof detail, offset + offsetof(struct record, detail));
+}
+
 /* Takes chunks in the order of their places, so that a file that takes no more lacks no chunk
  * of a thread before one that it has. Without `shared` no slot is given back. Returns whether a
  * chunk was done. */
@@ -297,6 +312,7 @@ static bool collect_chunks(struct store *of, struct shared *shared, bool is_with
     bool is_any_done = false;
     qsort(of->found, count, sizeof *of->found, by_place);
     for (size_t i = 0; i < count; i++) {
+        put_level(of, of->found[i].slot);
         if (of->ring)
             collect_into_ring(of, shared, &of->found[i]);
         else

@@ -35,6 +35,7 @@ struct store {
     struct found *found;       /* room for one of each slot */
     uint64_t lost, first_lost; /* records that the file couldn't take; their lowest number, or 0 */
     struct ring *ring;         /* with --last, else NULL */
+    bool sees_threads;         /* the program's numbers of threads are the collector's, too */
     struct begun *begun;       /* copies of the chunks that were begun, for a snapshot */
     size_t begun_count;
     uint64_t end;              /* of a snapshot: it has the records with lower numbers */

@@ -29,6 +29,16 @@ uint16_t inner_detail_of_attributes(const pthread_mutexattr_t *attributes) {
     return (uint16_t)(detail | DETAIL_PROTECT | ((unsigned)ceiling & 127) << 8);
 }
 
+uint32_t inner_task(void) {
+    pthread_mutex_t own = PTHREAD_MUTEX_INITIALIZER;
+    uint32_t task = 0;
+    if (inner_known & KNOWN_OWNER && real.mutex_lock(&own) == 0) {
+        task = inner_owner(&own);
+        real.mutex_unlock(&own);
+    }
+    return task ? task : (uint32_t)syscall(SYS_gettid);
+}
+
 /* ---- the test ---- */
 
 /* Sets each attribute by the bits of a detail. A protocol that isn't supported stays NONE. */

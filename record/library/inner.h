@@ -33,6 +33,10 @@ extern HIDDEN uint32_t inner_known;
 /* Tests which fields are where they are expected, on mutexes of its own. */
 void inner_test(void);
 
+/* Returns the kernel's number of the calling thread, without a system call where the C library
+ * shows who owns a mutex. */
+uint32_t inner_task(void);
+
 /* Tests whether inner_has_waiters can tell. */
 bool inner_shows_waiters(void);
 

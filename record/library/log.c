@@ -11,7 +11,6 @@
 #include <string.h>
 #include <sys/mman.h>
 #include <sys/socket.h>
-#include <sys/syscall.h>
 #include <sys/un.h>
 #include <unistd.h>
 
@@ -23,6 +22,7 @@ _Alignas(sizeof(union own_page)) union own_page log_own;
 static struct header *made; /* also in a forked process */
 __thread struct cursor log_cursor;
 uint64_t log_step = 1;
+_Atomic bool log_is_quiet;
 
 static struct shared *shared; /* the memory, up to the end of its first part of slots */
 static char *_Atomic parts[MOST_SLOTS / PART_SLOTS]; /* where the slots are; NULL: not mapped yet */
@@ -30,6 +30,7 @@ static uint64_t slots;        /* for how many chunks the memory has room */
 static _Atomic uint64_t touched; /* slots below this one were touched by this process */
 static bool is_first_program; /* of those that the recording has started */
 static uint64_t number_when_begun;
+static uint32_t process;
 
 /* ---- the collector ---- */
 
@@ -122,6 +123,7 @@ static bool ask(const char *name) {
  * memory locks what is mapped. No descriptor is there any more; but a mapping of shared memory
  * can be made anew, and longer, from its last page on. */
 static bool map_part(uint64_t part) {
+    if (atomic_load(&log_is_quiet)) return false;
     char *last_page = atomic_load(&parts[part - 1]) + PART_BYTES - PAGE, *none = NULL;
     char *mapped = mremap(last_page, 0, PAGE + PART_BYTES, MREMAP_MAYMOVE);
     if (mapped == MAP_FAILED) return false;
@@ -139,14 +141,17 @@ static char *address_of(uint64_t slot) {
 }
 
 /* Has the pages of slots there, so that a lack of memory ends the log and not the program.
- * Linux does so from 5.14 on; an older one says EINVAL. */
+ * Linux does so from 5.14 on; an older one says EINVAL. Without a system call, each page comes as
+ * it is used. */
 static bool touch(uint64_t slot, uint64_t count) {
     while (count > 0) {
         uint64_t here = PART_SLOTS - slot % PART_SLOTS;
         char *memory = address_of(slot);
         if (here > count) here = count;
         if (!memory) return false;
-        if (madvise(memory, here * CHUNK_BYTES, MADV_POPULATE_WRITE) != 0 && errno != EINVAL)
+        bool is_asked = !atomic_load(&log_is_quiet);
+        if (is_asked && madvise(memory, here * CHUNK_BYTES, MADV_POPULATE_WRITE) != 0 &&
+            errno != EINVAL)
             return false;
         slot += here;
         count -= here;
@@ -178,17 +183,28 @@ static unsigned count_free(uint64_t used) {
 
 void log_prepare(void) {
     int error = errno;
+    if (atomic_load(&log_is_quiet)) return;
     touch_slots(MANY_SLOTS);
     uint64_t used = atomic_load(&shared->next_slot);
     if (used < slots && count_free(used) < FREE_SLOTS) touch_slots(used + FREE_SLOTS);
     errno = error;
 }
 
+void log_be_quiet(void) {
+    int error = errno;
+    log_prepare();
+    for (uint64_t part = 1; part < QUIET_PARTS && part * PART_SLOTS < slots; part++)
+        if (!atomic_load(&parts[part]) && !map_part(part)) break;
+    atomic_store(&log_is_quiet, true);
+    errno = error;
+}
+
 /* Pages that are mapped stay so in a forked process, but each has to be touched there anew. */
-void log_is_forked(void) {
+void log_is_forked(uint32_t forked) {
     log_header = made;
+    process = forked;
     atomic_store(&touched, 0);
-    madvise(shared, sizeof *shared, MADV_POPULATE_WRITE);
+    if (!atomic_load(&log_is_quiet)) madvise(shared, sizeof *shared, MADV_POPULATE_WRITE);
 }
 
 /* ---- making the log ---- */
@@ -228,7 +244,7 @@ void log_make(void) {
     header->chunk_records = CHUNK_RECORDS;
     header->known = inner_known;
     header->contents = HAS_PLACES;
-    header->process = (uint32_t)getpid();
+    header->process = process = (uint32_t)getpid();
     header->parent = (uint32_t)getppid();
     header->began_monotonic = clock_time();
     header->began_realtime = realtime();
@@ -294,8 +310,8 @@ bool log_open_chunk(void) {
     if (head) {
         if (log_cursor.thread == 0)
             log_cursor.thread = (uint32_t)atomic_fetch_add(&header->next_thread, 1);
-        head->process = (uint32_t)getpid();
-        head->task = (uint32_t)syscall(SYS_gettid);
+        head->process = process;
+        head->task = log_cursor.task;
         head->thread = log_cursor.thread;
         head->index = log_cursor.chunks++;
         atomic_store_explicit(&head->place, chunk + 1, memory_order_relaxed);

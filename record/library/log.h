@@ -184,6 +184,7 @@ extern HIDDEN union own_page log_own;
 
 extern HIDDEN __thread struct cursor log_cursor;
 extern HIDDEN uint64_t log_step; /* from one number to the next */
+extern HIDDEN _Atomic bool log_is_quiet; /* the recorder makes no system call any more */
 
 /* Gets the log's memory from the collector that the environment names. If it can't be reached, or
  * refuses, the program runs unrecorded. */
@@ -200,8 +201,12 @@ bool log_remove_unused(void);
  * priority come to use them. */
 void log_prepare(void);
 
-/* Says that the process is a forked one, which has touched nothing yet. */
-void log_is_forked(void);
+/* Says that the process is a forked one of this number, which has touched nothing yet. */
+void log_is_forked(uint32_t process);
+
+/* Says that the process may get a seccomp filter, which ends it at a call that the program itself
+ * doesn't make. What takes such a call is done now, and the recorder makes none from here on. */
+void log_be_quiet(void);
 
 /* Gives the thread its next chunk. Returns false where there is no room. */
 bool log_open_chunk(void);

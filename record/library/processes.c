@@ -1,4 +1,5 @@
 #define _GNU_SOURCE
+#include "inner.h"
 #include "recorder.h"
 
 #include <errno.h>
@@ -27,10 +28,10 @@ static void before_fork(void) {
 
 /* The child of a process that is recorded goes on in the same file, in chunks of its own. */
 static void in_child(void) {
-    process = getpid();
+    process = (pid_t)inner_task();
     if (!has_log) return;
     log_cursor = (struct cursor){ .next = NULL };
-    log_is_forked();
+    log_is_forked((uint32_t)process);
     thread_introduce();
     log_put((struct record){ .event = EVENT_CHILD,
                              .object = fork_number,
@@ -153,8 +154,10 @@ static void put_end(bool is_status_known, int status) {
                              .value = (uint32_t)status & 0xff });
 }
 
+/* Where the kernel may not be asked, nothing says whether it is a child of vfork that ends. A
+ * filter that allows an exec allows what the recorder asks as the next program starts. */
 EXPORT _Noreturn void _exit(int status) {
-    if (is_own_record()) {
+    if (!atomic_load(&log_is_quiet) && is_own_record()) {
         put_end(true, status);
         log_close_chunk();
     }
@@ -168,7 +171,7 @@ EXPORT _Noreturn void _Exit(int status) {
 
 /* Runs at a return from main and at exit, which don't tell the status. */
 __attribute__((destructor)) static void finish(void) {
-    if (!log_header || getpid() != process) return;
+    if (!log_header || (!atomic_load(&log_is_quiet) && getpid() != process)) return;
     if (log_remove_unused()) return;
     modules_tell();
     put_end(false, 0);

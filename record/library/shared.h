@@ -17,6 +17,7 @@ enum {
     FREE_SLOTS = 64,    /* at least so many are free when a thread is created */
     PART_SLOTS = 256,   /* so many are mapped at a time */
     PART_BYTES = PART_SLOTS * CHUNK_BYTES,
+    QUIET_PARTS = 16,   /* 64 MB, which are mapped before a seccomp filter forbids that */
     PAGE = 4096,
     REQUEST_COUNTS = 2048,
 };

@@ -1,4 +1,5 @@
 #define _GNU_SOURCE
+#include "inner.h"
 #include "recorder.h"
 
 #include <errno.h>
@@ -25,22 +26,25 @@ static uint16_t detail_of_priority(int policy, int priority) {
     return (uint16_t)(((unsigned)policy & 15) | ((unsigned)priority & 255) << 8);
 }
 
-/* The kernel's policy and priority are those that were set, not what is inherited. */
+/* The kernel's policy and priority are those that were set, not what is inherited. Where the kernel
+ * may not be asked, the collector puts the level, and the thread has no name. */
 void thread_introduce(void) {
     struct sched_param param = { .sched_priority = 0 };
     char name[NAME_BYTES] = "";
     int error = errno;
     log_cursor.depth++;
     log_cursor.is_introduced = true;
-    log_cursor.task = (uint32_t)syscall(SYS_gettid);
-    int policy = sched_getscheduler(0);
-    sched_getparam(0, &param);
-    prctl(PR_GET_NAME, name);
-    if (is_real_time(policy)) log_prepare();
+    log_cursor.task = inner_task();
+    int policy = POLICY_KEPT;
+    bool is_asked = !atomic_load(&log_is_quiet);
+    if (is_asked) policy = sched_getscheduler(0);
+    if (is_asked) sched_getparam(0, &param);
+    if (is_asked) prctl(PR_GET_NAME, name);
+    if (is_asked && is_real_time(policy)) log_prepare();
     log_put((struct record){ .event = EVENT_THREAD,
                              .object = (uint64_t)pthread_self(),
                              .detail = detail_of_priority(policy, param.sched_priority) });
-    log_put_text(EVENT_NAME, (uint64_t)pthread_self(), name, NAME_BYTES - 1);
+    if (is_asked) log_put_text(EVENT_NAME, (uint64_t)pthread_self(), name, NAME_BYTES - 1);
     if (has_exit_key) pthread_setspecific(exit_key, &log_cursor);
     log_cursor.depth--;
     errno = error;
@@ -99,7 +103,8 @@ EXPORT int pthread_setname_np(pthread_t thread, const char *name) {
 
 /* The arguments that a call doesn't have are read and handed on, as glibc does itself. Only a name
  * is told: an allocator may make another such call within malloc, and the recorder's start may
- * allocate. So the kernel is called without it. */
+ * allocate. So the kernel is called without it. A process that isn't root sets PR_SET_NO_NEW_PRIVS
+ * before it sets a filter, by whichever call. */
 EXPORT int prctl(int option, ...) {
     unsigned long arguments[4];
     va_list list;
@@ -107,6 +112,8 @@ EXPORT int prctl(int option, ...) {
     for (size_t i = 0; i < 4; i++) arguments[i] = va_arg(list, unsigned long);
     va_end(list);
     bool is_told = option == PR_SET_NAME && is_recorded();
+    bool may_filter = option == PR_SET_NO_NEW_PRIVS || option == PR_SET_SECCOMP;
+    if (may_filter && is_recorded()) log_be_quiet();
     int result =
         (int)syscall(SYS_prctl, option, arguments[0], arguments[1], arguments[2], arguments[3]);
     int error = errno;
