@@ -30,6 +30,8 @@ static const struct symbol SYMBOLS[] = {
     { "pthread_mutex_timedlock", offsetof(struct real, mutex_timedlock), NULL },
     { "pthread_mutex_clocklock", offsetof(struct real, mutex_clocklock), NULL },
     { "pthread_mutex_setprioceiling", offsetof(struct real, mutex_setprioceiling), NULL },
+    { "pthread_cond_init", offsetof(struct real, cond_init), "GLIBC_2.3.2" },
+    { "pthread_cond_destroy", offsetof(struct real, cond_destroy), "GLIBC_2.3.2" },
     { "pthread_cond_signal", offsetof(struct real, cond_signal), "GLIBC_2.3.2" },
     { "pthread_cond_broadcast", offsetof(struct real, cond_broadcast), "GLIBC_2.3.2" },
     { "sem_wait", offsetof(struct real, sem_wait), NULL },

@@ -6,11 +6,16 @@
 
 #include <errno.h>
 #include <sched.h>
+#include <stdlib.h>
+#include <string.h>
 #include <unistd.h>
 
 _Atomic bool recorder_is_ready;
+bool recorder_tries;
 
 static void begin(void) {
+    const char *preloaded = getenv("LD_PRELOAD");
+    recorder_tries = !preloaded || !strstr(preloaded, "/vgpreload_");
     real_find();
     inner_test();
     log_make();

@@ -10,6 +10,10 @@
 
 extern HIDDEN _Atomic bool recorder_is_ready;
 
+/* Whether what can be had at once is tried first. Not under valgrind: helgrind and drd don't know
+ * all of the calls that try, and would find races in the program. */
+extern HIDDEN bool recorder_tries;
+
 /* Finds the C library's functions, makes the log, and tells how the program began. Runs before
  * main, or at the first recorded call, which may come before. */
 void recorder_start(void);
@@ -26,10 +30,15 @@ void processes_start(void);
 /* Tells of the modules that are loaded, but for those of which it told before. */
 void modules_tell(void);
 
-/* Returns whether the calling thread's call is to be recorded. */
-static inline bool is_recorded(void) {
+/* Has the C library's functions there. */
+static inline void recorder_find(void) {
     bool is_ready = atomic_load_explicit(&recorder_is_ready, memory_order_acquire);
     if (__builtin_expect(!is_ready, 0)) recorder_start();
+}
+
+/* Returns whether the calling thread's call is to be recorded. */
+static inline bool is_recorded(void) {
+    recorder_find();
     if (__builtin_expect(!log_header || log_cursor.depth, 0)) return false;
     if (__builtin_expect(!log_cursor.is_introduced, 0)) thread_introduce();
     return true;

@@ -67,6 +67,7 @@ static bool is_clock(clockid_t clock) {
 
 static bool takes(sem_t *semaphore) {
     int error = errno;
+    if (!recorder_tries) return false;
     if (real.sem_trywait(semaphore) == 0) return true;
     errno = error;
     return false;
@@ -152,9 +153,13 @@ EXPORT int pthread_barrier_wait(pthread_barrier_t *barrier) {
 
 /* ---- ends of threads ---- */
 
+static int try_join(pthread_t thread, void **result) {
+    return recorder_tries ? real.tryjoin(thread, result) : EBUSY;
+}
+
 EXPORT int pthread_join(pthread_t thread, void **result) {
     if (!is_recorded()) return real.join(thread, result);
-    int error = real.tryjoin(thread, result);
+    int error = try_join(thread, result);
     if (error != EBUSY) return error;
     struct wait wait = begin_wait(KIND_THREAD, (uintptr_t)thread, CALLER);
     return end_wait(&wait, real.join(thread, result));
@@ -162,7 +167,7 @@ EXPORT int pthread_join(pthread_t thread, void **result) {
 
 EXPORT int pthread_timedjoin_np(pthread_t thread, void **result, const struct timespec *until) {
     if (!is_recorded()) return real.timedjoin(thread, result, until);
-    int error = real.tryjoin(thread, result);
+    int error = try_join(thread, result);
     if (error != EBUSY) return error;
     struct wait wait = begin_wait(KIND_THREAD, (uintptr_t)thread, CALLER);
     return end_wait(&wait, real.timedjoin(thread, result, until));
@@ -171,13 +176,26 @@ EXPORT int pthread_timedjoin_np(pthread_t thread, void **result, const struct ti
 EXPORT int pthread_clockjoin_np(pthread_t thread, void **result, clockid_t clock,
                                 const struct timespec *until) {
     if (!is_recorded() || !is_clock(clock)) return real.clockjoin(thread, result, clock, until);
-    int error = real.tryjoin(thread, result);
+    int error = try_join(thread, result);
     if (error != EBUSY) return error;
     struct wait wait = begin_wait(KIND_THREAD, (uintptr_t)thread, CALLER);
     return end_wait(&wait, real.clockjoin(thread, result, clock, until));
 }
 
 /* ---- condition variables ---- */
+
+/* These two aren't recorded. A caller that was linked without the C library, as a part of valgrind's
+ * drd, gets the oldest form of each of its functions. The recorder calls the newest form of those
+ * that it records, and another form may not have initialised all that this one reads. */
+EXPORT int pthread_cond_init(pthread_cond_t *condition, const pthread_condattr_t *attributes) {
+    recorder_find();
+    return real.cond_init(condition, attributes);
+}
+
+EXPORT int pthread_cond_destroy(pthread_cond_t *condition) {
+    recorder_find();
+    return real.cond_destroy(condition);
+}
 
 EXPORT int pthread_cond_signal(pthread_cond_t *condition) {
     if (is_recorded()) give(KIND_CONDITION, condition, 0, CALLER);
