@@ -150,14 +150,40 @@ def full_disk(release):
         status, _, said, _ = release.record(PROGRAMS / "pair", "30000", "2", cwd=disk)
         is_said = " % of the events are missing, from " in said
         why = difference((status, is_said), (0, True)) and f"{status} {said}"
-        return check("a report on a full disk", why)
+        check("a report on a full disk", why)
+        pathlib.Path(disk, "rest").write_bytes(bytes(os.statvfs(disk).f_bavail * os.statvfs(disk).f_bsize))
+        return elsewhere(release, "a folder that is full", disk)
     finally:
         subprocess.run(["umount", disk], check=True)
 
 
+def elsewhere(release, name, folder):
+    """Where the folder takes no log, it is in that of temporary files, and there is a report."""
+    place = release.place.parent / f"{name.rpartition(' ')[2]}-tmp"
+    place.mkdir()
+    before, command = sorted(os.listdir(folder)), [release.root / "record/pim-record", "sh", "-c", "echo out"]
+    done = subprocess.run(command, capture_output=True, text=True, timeout=SECONDS, cwd=folder, check=False,
+                          env={**os.environ, "TMPDIR": str(place)})
+    lines, log = done.stderr.splitlines(), rf"{re.escape(str(place))}/sh\.\d+\.pimlog"
+    got = done.returncode, done.stdout, lines[0], bool(re.fullmatch(KEPT.format(log), lines[-1]))
+    wanted = 0, "out\n", "Nothing to worry about: no thread waited for a mutex.", True
+    check(f"the report in {name}", difference(got, wanted) and f"{got} {done.stderr}")
+    if folder != "/proc":
+        check(f"nothing is left in {name}", difference((sorted(os.listdir(folder)),), (before,)))
+
+
+def read_only(release):
+    """Nobody can make a file in /proc. With -o nothing is run."""
+    elsewhere(release, "a folder that is read-only", "/proc")
+    command = [release.root / "record/pim-record", "-o", "run", "echo", "it ran"]
+    done = subprocess.run(command, capture_output=True, text=True, timeout=SECONDS, cwd="/proc", check=False)
+    got = done.returncode, done.stdout, done.stderr.endswith("; nothing was run\n")
+    check("with -o a log that can't be made is refused", difference(got, (2, "", True)))
+
+
 def shown(folder):
     release = Release(folder)
-    for part in (reported, full, by_a_signal, found, named, full_disk, without_findings):
+    for part in (reported, full, by_a_signal, found, named, read_only, full_disk, without_findings):
         part(release)
 
 
