@@ -99,6 +99,8 @@ static bool is_same_file(const char *path, const char *other) {
 
 /* ---- what can't be recorded ---- */
 
+static const char capable[] = "a program with capabilities";
+
 /* Returns by what a file gains rights, so that the loader preloads nothing into it, or NULL. */
 static const char *rights_of(const char *program, int file) {
     struct stat found;
@@ -107,7 +109,7 @@ static const char *rights_of(const char *program, int file) {
     bool is_setgid = found.st_mode & S_ISGID && found.st_gid != getgid();
     if (is_setuid || is_setgid) return "setuid or setgid";
     if (getuid() != 0 && fgetxattr(file, "security.capability", NULL, 0) > 0)
-        return "a program with capabilities";
+        return capable;
     return NULL;
 }
 
@@ -159,9 +161,11 @@ static const char *unlogged(const char *program, char path[PATH_MAX]) {
 }
 
 static _Noreturn void refuse_unlogged(const char *path, const char *what) {
+    const char *how = what != capable ? "" :
+        " a copy that cp makes has none, and is recorded if it gets them by setpriv --ambient-caps;";
     fprintf(stderr,
-            "pim-record: %s is %s: its calls can't be recorded; with --kernel, as root, the"
-            " kernel's events are; nothing was run\n", path, what);
+            "pim-record: %s is %s: its calls can't be recorded;%s with --kernel, as root, the"
+            " kernel's events are; nothing was run\n", path, what, how);
     exit(FAULT);
 }
 
