@@ -11,6 +11,7 @@ import os
 import pathlib
 import re
 import shutil
+import struct
 import subprocess
 import sys
 
@@ -24,6 +25,11 @@ MODULE_BYTES = 1 << 24  # an address further than this from the begin of a file 
 NAME_LENGTH = 80
 ADDRESS = (1 << 48) - 1  # the bits of an object that are its address
 RECORD_BYTES, BLOCK_BYTES = 32, 1 << 20
+# The head of a file of 64 bits in this byte order: its start, where its parts are, the size of each, and how many; and
+# a part: its kind, its rights, where it is in the file and in memory, and its length there.
+ELF, PART = struct.Struct("=6s26xQ14xHH6x"), struct.Struct("=IIQQQQQQ")
+ELF_64 = b"\x7fELF\x02\x01" if sys.byteorder == "little" else b"\x7fELF\x02\x02"
+LOADED, WRITABLE = 1, 2
 
 
 class NotWritten(Exception):
@@ -57,8 +63,11 @@ class Places:
         return self.module_of(address - 1)
 
     def files_of_objects(self):
-        """Returns the paths of the files in which objects may lie."""
-        return {where[0] for where in map(self.module_of, self.objects) if where}
+        """Returns the paths of the files in whose variables objects may lie."""
+        offsets = {}
+        for path, offset in filter(None, map(self.module_of, self.objects)):
+            offsets.setdefault(path, []).append(offset)
+        return {path for path, its in offsets.items() if has_variables_at(path, its)}
 
     def unnumbered(self, texts, symbols):
         """Returns the texts of addresses that have no number, by address: of the static mutexes,
@@ -216,6 +225,22 @@ def last_outside(text, sign):
 
 
 # ---- static mutexes
+
+def has_variables_at(path, offsets):
+    """Returns whether one of the offsets may be in a part of a file that is loaded to be written to.
+    Of a file that can't be read as one of this machine it may."""
+    try:
+        with open(path, "rb") as file:
+            start, place, size, count = ELF.unpack(file.read(ELF.size))
+            if (start, size) != (ELF_64, PART.size):
+                return True
+            file.seek(place)
+            parts = [PART.unpack(file.read(PART.size)) for _ in range(count)]
+    except (OSError, ValueError, OverflowError, struct.error):
+        return True
+    return any(begin <= offset < begin + length for kind, rights, _, begin, _, _, length, _ in parts
+               if kind == LOADED and rights & WRITABLE for offset in offsets)
+
 
 class Symbols:
     """The static variables of a file."""

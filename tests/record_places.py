@@ -627,6 +627,26 @@ def named(broken, folder):
         check("the addresses ascend", difference(names_of(path), sorted(names_of(path))))
 
 
+def asked(folder):
+    """A file is asked for its variables if a mutex may be one of them, and no other file is."""
+    bin_folder, nm = pathlib.Path(folder, "bin"), shutil.which("nm")
+    bin_folder.mkdir()
+    (bin_folder / "nm").write_text(f'#!/bin/sh\nfor it; do :; done\necho "$it" >> {folder}/asked\nexec {nm} "$@"\n')
+    (bin_folder / "nm").chmod(0o755)
+    environment = {**os.environ, "PATH": f"{bin_folder}:{os.environ['PATH']}"}
+    programs = RECORD / "out/programs"
+    for program, wanted in ((programs / "pair", []), (programs / "turns", [f"{programs}/turns"])):
+        pathlib.Path(folder, "asked").write_text("")
+        recorded(folder, program, "9", env=environment)
+        got = sorted(set(pathlib.Path(folder, "asked").read_text().split()))
+        check(f"whom nm is asked about, of {program.name}", difference(got, wanted))
+    odd = pathlib.Path(folder, "odd")
+    for text in (b"", b"\x7fELF\x02\x01" + bytes(20), b"#!/bin/sh\n" + bytes(100)):
+        odd.write_bytes(text)
+        check(f"a file of {len(text)} bytes may have variables",
+              difference((places_text.has_variables_at(odd, [8]),), (True,)))
+
+
 def stripped(folder):
     """A place without a line is a file and an offset, of the last byte of the call."""
     program = compiled(folder, "plan.c", PLAN)
@@ -672,6 +692,8 @@ def places(attempt, broken, folder):
     others = (probes, locking, by_hand, words)
     if len(of_logs) > 1:
         others = (*others, killed, symbolizers, stripped, files)
+    if len(of_logs) > 1 and shutil.which("nm"):
+        others = (*others, asked)
     for part in (*of_logs, *others):
         own = pathlib.Path(folder, part.__name__)
         own.mkdir()
