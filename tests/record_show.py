@@ -151,6 +151,8 @@ def full_disk(release):
         is_said = " % of the events are missing, from " in said
         why = difference((status, is_said), (0, True)) and f"{status} {said}"
         check("a report on a full disk", why)
+        is_named = re.match(r"pim-record: the log had no room for \d+ records: the disk is full;", said)
+        check("a full disk is named", None if is_named else said)
         pathlib.Path(disk, "rest").write_bytes(bytes(os.statvfs(disk).f_bavail * os.statvfs(disk).f_bsize))
         return elsewhere(release, "a folder that is full", disk)
     finally:
