@@ -491,8 +491,8 @@ impl Tables {
         }
     }
 
-    // Lets the task stop waiting for this mutex with this ticket. Not inlined, for the reason given at `join`.
-    #[inline(never)]
+    // Lets the task stop waiting for this mutex with this ticket.
+    #[inline(always)]
     pub(crate) fn end_wait(&mut self, task: TaskNo, mutex: MutexNo, ticket: u64)
         requires { wait_of self.old.state task ≡ Some (record { mutex = mutex; ticket = ticket }) }
         ensures left { self.new ≡ left self.old task mutex }

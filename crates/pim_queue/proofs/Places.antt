@@ -217,6 +217,18 @@ gap_closed ws us place n low is moved =
 
 pub ruleset closed = (gap_closed, with_items_is)
 
+-- dropping the only one takes it out
+pub last_out :
+    (w : Waiter) (ws : List Waiter)
+    → find (is_of w.task) ws ≡ Some w
+    → length ws ≡ 1
+    → take (length ws - 1) ws ≡ without w.task ws
+last_out w [] found one = absurd (none-some w found)
+last_out w (v ∷ u ∷ us) found one = absurd (omega arith)
+last_out w (v ∷ []) found one = grind (arith, none-some)
+
+pub ruleset only_out = (last_out, with_items_is)
+
 -- ---- one put in
 -- taking out the one that was put in at the end gives what was there before
 pub added : (w : Waiter) (ws : List Waiter) → remove (ws ++ w ∷ []) (length ws) ≡ ws
