@@ -5,6 +5,7 @@ with those of pim-facts.
 import bisect
 from collections import defaultdict, namedtuple
 
+from plain_joined_logs import part_of
 from record_logs import reader
 
 GRANTED, WAITS, GAVE_UP = "granted", "waits", "gave up"
@@ -13,9 +14,9 @@ RELEASED, PRIORITY, CEILING = "released", "priority", "ceiling"
 # owned the mutex then, or None if no record says it. `time` is in nanoseconds, `record` the number
 # of the record that says it, or behind which it was added.
 Fact = namedtuple("Fact", "time thread what mutex level owner record", defaults=(None,) * 4)
-# A mutex of a log. `process` is None if it is shared, `init` the number of its INIT, or None, and
-# `first` that of its first record.
-Mutex = namedtuple("Mutex", "process address init first")
+# A mutex of a log. `process` is None if it is shared, `init` the number of its INIT, or None,
+# `first` that of its first record, and `part` which of several logs has it.
+Mutex = namedtuple("Mutex", "process address init first part")
 
 POLICY, FIFO, RR, DEADLINE, KEPT = 15, 1, 2, 6, 15
 OTHER_LEVEL, DEADLINE_LEVEL = 0, 100
@@ -49,8 +50,8 @@ def ceiling_of(record):
 
 
 def kind_of(detail):
-    """Returns what of a detail is the same as long as a mutex is there, or None where it isn't known.
-    Only the INIT of a robust mutex says whether it is shared."""
+    """Returns what of a detail is the same as long as a mutex is there, or None where it isn't
+    known. Only the INIT of a robust mutex says whether it is shared."""
     if not detail or detail & reader.PROTOCOL == reader.PROTOCOL:
         return None
     is_shared = not detail & reader.ROBUST and detail & reader.SHARED
@@ -61,14 +62,14 @@ class Mutexes:
     """Which mutex each record is of, and of which kind each is."""
 
     def __init__(self, records):
-        self.own, self.shared = {}, {}  # the mutex at a process and address, and at an address
+        self.own, self.shared = {}, {}  # the mutex at a process, or a log, and an address
         self.of = {}                    # by a record's number
         self.details = {}               # by mutex the first detail that is known
         last, self.failed = {}, set()   # the numbers of DESTROYs that failed
         for record in records:
             before = last.get(record.chunk.thread)
-            is_answer = before is not None and before.event == reader.DESTROY
-            if is_answer and record.event == reader.DESTROY_FAILED and before.object == record.object:
+            is_answer = record.event == reader.DESTROY_FAILED and before is not None
+            if is_answer and (before.event, before.object) == (reader.DESTROY, record.object):
                 self.failed.add(before.number)
             last[record.chunk.thread] = record
         for record in records:
@@ -81,8 +82,9 @@ class Mutexes:
 
     def forget(self, record):
         """The mutex of a record is destroyed: the next record of the address is of another."""
-        if self.own.pop((record.chunk.process, record.object), None) is None:
-            self.shared.pop(record.object, None)
+        process = record.chunk.process
+        if self.own.pop((process, record.object), None) is None:
+            self.shared.pop((part_of(process), record.object), None)
 
     def is_another(self, mutex, record):
         """Returns whether a record is of another mutex than the one that is at its address."""
@@ -94,15 +96,16 @@ class Mutexes:
     def named(self, record):
         """Returns the mutex of the next record."""
         process, address = record.chunk.process, record.object
-        there = self.own.get((process, address)) or self.shared.get(address)
+        part = part_of(process)
+        there = self.own.get((process, address)) or self.shared.get((part, address))
         if there and not self.is_another(there, record):
             return there
         is_shared = detail_of(record) & reader.SHARED
         init = record.number if record.event == reader.INIT else None
-        mutex = Mutex(None if is_shared else process, address, init, record.number)
+        mutex = Mutex(None if is_shared else process, address, init, record.number, part)
         if is_shared:
             self.own.pop((process, address), None)
-            self.shared[address] = mutex
+            self.shared[part, address] = mutex
         else:
             self.own[process, address] = mutex
         return mutex
@@ -144,7 +147,7 @@ class Log:
     def note(self, record, thread):
         if record.event == reader.THREAD:
             self.begins[record.chunk.task].append(record)
-            self.first_level[thread] = level_of(record.detail, OTHER_LEVEL)
+            self.first_level.setdefault(thread, level_of(record.detail, OTHER_LEVEL))
         elif record.event == reader.GRANTED:
             mutex = self.mutexes.of[record.number]
             before = self.latest[mutex][-1] if self.latest[mutex] else 0

@@ -9,6 +9,7 @@ from collections import namedtuple
 import log_facts
 import plain_facts_of_kernel as plain_kernel
 import plain_other_waits
+from plain_joined_logs import Joined, are_alike, part_of
 from record_logs import reader
 
 MOST_LEVEL, MOST_TIME, LAST_THREAD, MOST_THREADS = 100, 10**19 - 1, 2**32 - 2, 65536
@@ -37,15 +38,17 @@ def visible(text):
 # ---- names
 
 class Names:
-    """What threads, places and addresses of a log are called. `places` are the bytes of LOG.places."""
+    """What threads, places and addresses of a log are called. `places` are the bytes of LOG.places, of each of several
+    logs, if it is of several."""
 
     def __init__(self, whole, log, places):
-        self.whole, self.log = whole, log
+        self.whole, self.log, self.is_joined = whole, log, isinstance(whole, Joined)
         self.threads, self.modules, self.parents = {}, [], {}
         self.numbered, self.by_address = {}, {}
         self.read_records()
-        for line in places.split(b"\n"):
-            self.read_line(line)
+        for part, text in enumerate(places if self.is_joined else [places]):
+            for line in text.split(b"\n"):
+                self.read_line(part, line)
 
     def read_records(self):
         selves, process_of = {}, {}
@@ -61,7 +64,7 @@ class Names:
             elif record.event == reader.CHILD and record.value in process_of:
                 self.parents.setdefault(process, process_of[record.value])
 
-    def read_line(self, line):
+    def read_line(self, part, line):
         for form in (NUMBERED, UNNUMBERED):
             found = form.fullmatch(line)
             text = found[3].replace(b" (", b"(") if found else b""
@@ -69,9 +72,9 @@ class Names:
             if found and found[3].decode("latin-1") in NOT_PLACES:
                 word = "_" + word
             if word and found[1] == b"-":
-                self.by_address[int(found[2], 16)] = word
+                self.by_address[part, int(found[2], 16)] = word
             elif word and int(found[1]) <= MOST_NUMBER:
-                self.numbered[int(found[1])] = word
+                self.numbered[(part, int(found[1])) if self.is_joined else int(found[1])] = word
 
     def module(self, process, address):
         """Returns the begin and the name of the nearest file at an address of a process, or of any if that is None."""
@@ -88,8 +91,9 @@ class Names:
             return f"{address:#x}"
         return f"{visible(module[2])}+{address - module[0]:#x}"[-NAME_BYTES:]
 
-    def address(self, process, address):
-        return self.by_address.get(address) or self.file_at(process, address)
+    def address(self, process, address, part=None):
+        part = part_of(process) if part is None else part
+        return self.by_address.get((part, address)) or self.file_at(process, address)
 
     def place(self, record):
         """Returns the word of a record's place, or None."""
@@ -111,8 +115,9 @@ class Names:
     def mutex(self, mutex):
         place, after = None, self.log.next_of.get(mutex.init)
         if after is not None and after.event == reader.PLACE and after.object:
-            place = self.by_address.get(after.object) or self.file_at(after.chunk.process, after.object - 1)
-        name = self.address(mutex.process, mutex.address).replace("@", "_")
+            process = after.chunk.process
+            place = self.by_address.get((part_of(process), after.object)) or self.file_at(process, after.object - 1)
+        name = self.address(mutex.process, mutex.address, mutex.part).replace("@", "_")
         if place is None:
             return name
         place = place[:INIT_BYTES]
@@ -308,7 +313,7 @@ class Writer:
             self.lines.append(" ".join(map(str, [*words, self.names.mutex(mutex)])))
         for thing, number in self.objects.items():
             if isinstance(thing, int):
-                self.lines.append(f"object {number} futex {self.names.address(None, thing)}")
+                self.lines.append(f"object {number} futex {self.names.address(0, thing)}")
                 continue
             process, kind, address = thing
             self.lines.append(f"object {number} {kind} {self.names.address(process, address)}")
@@ -614,7 +619,12 @@ def numbered(things):
     return {thing: number for number, thing in enumerate(dict.fromkeys(things), 1)}
 
 
-def text_of(data, places=b"", kernel=None):
-    """Returns the text of a log's bytes, which are None where there are the kernel's events alone."""
+def text_of(data, places=b"", kernel=None, others=()):
+    """Returns the text of a log's bytes, which are None where there are the kernel's events alone. `others` are the
+    logs of programs that it started, each with the bytes of its places, by their names."""
     whole = NO_LOG if data is None else reader.Log(data)
+    logs = [(reader.Log(log), text) for log, text in others]
+    logs = sorted((one for one in logs if are_alike(one[0].head, whole.head)), key=lambda one: one[0].head.began)
+    if logs:
+        whole, places = Joined([whole, *(log for log, _ in logs)]), [places, *(text for _, text in logs)]
     return "".join(f"{line}\n" for line in Writer(whole, places, kernel).all())

@@ -144,7 +144,13 @@ class Program:
             yield
         while thread.owned and not self.chance(0.1):
             yield from self.unlock(thread, thread.owned[-1])
-        self.put(thread, reader.EXIT)
+        becomes_another = self.chance(0.2)
+        if becomes_another:
+            self.put(thread, reader.EXEC)
+        if becomes_another and self.chance(0.3):
+            self.put(thread, reader.EXEC_FAILED)
+        if not becomes_another:
+            self.put(thread, reader.EXIT)
         for mutex in thread.owned:
             if mutex.robust:
                 mutex.owner, mutex.is_orphan = None, True
@@ -156,7 +162,7 @@ class Program:
         usual = self.unlock if mutex in thread.owned else self.lock
         deeds = [usual] * 8 + [self.trylock, self.timedlock, self.timedlock, self.condition,
                                self.set_level, self.set_ceiling, self.unlock_of_another,
-                               self.begin_mutex, self.fork]
+                               self.begin_mutex, self.load, self.fork]
         return self.choose.choice(deeds)(thread, mutex)
 
     def lock(self, thread, mutex):
@@ -301,6 +307,11 @@ class Program:
         yield from self.late()
         self.put(thread, reader.CEILING, mutex.address, detail=detail)
         mutex.calls -= 1
+
+    def load(self, thread, _mutex):
+        """A file is loaded near the mutexes. Its name is empty."""
+        self.put(thread, reader.MODULE, self.choose.choice((0x4f00, 0x5010)))
+        yield
 
     def fork(self, thread, _mutex):
         """The child is a thread of another process. There is one child at most."""

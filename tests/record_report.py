@@ -155,6 +155,24 @@ def programs(folder):
         check(f"the facts of {command} are a text", found and found.fault())
 
 
+# How the program inversion may be started. The report is of all programs of a recording.
+WRAPPERS = "env A=1 {}", "timeout 60 {}", "nice -n 0 env A=1 {}", "sh -c '{}'", "sh -c 'true; {} && true'"
+
+
+def wrappers(folder):
+    """A wait of a program is in the report, whatever starts it. Its threads have their names and levels."""
+    program = f"{PROGRAMS / 'inversion'} none 20"
+    for wrapper in WRAPPERS:
+        done, log = recorded(folder, "sh", "-c", f"exec {wrapper.format(program)}")
+        name = f"the report of {wrapper.format('inversion')}"
+        if done.returncode == SKIPPED:
+            skip(name, "SCHED_FIFO isn't permitted")
+            continue
+        found = Report(log)
+        wanted = 1, ["high (30) for none mutex of low (10): inverted"]
+        check(name, found.fault() or difference((found.status, found.waits()), wanted))
+
+
 def missed(folder):
     """Each wait of high in missed is for low, also one that began while the mutex was free: low
     was quicker. There may be none where the two seldom run at one time: then there is another
@@ -363,7 +381,7 @@ def hooks(folder):
 
 def reports(attempt, folder):
     """Each part, of which one that breaks off leaves the others as they are."""
-    for part in (programs, missed, objects, kernel, static, code_places, places, callers, real,
+    for part in (programs, wrappers, missed, objects, kernel, static, code_places, places, callers, real,
                  latest, small_rings, hooks):
         with tempfile.TemporaryDirectory(dir=folder) as own:
             attempt(part, own)

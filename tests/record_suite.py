@@ -2,6 +2,7 @@
 suite/recordings/README.md says what the files are."""
 import importlib
 import pathlib
+import re
 import sys
 
 from checks import ROOT, answer, check, difference, files_of
@@ -122,16 +123,23 @@ def said_otherwise(got, wanted):
 # ---- the files
 
 class Case:
-    """A recording, and what must come of it, by the ends of the files' names."""
+    """A recording, and what must come of it, by the ends of the files' names. `others` are the files of programs that
+    it started, by the ends of their names."""
 
-    def __init__(self, name, log=None, kernel=None, places=None, **wanted):
+    def __init__(self, name, log=None, kernel=None, places=None, others=None, **wanted):
         self.name, self.log, self.kernel, self.wanted = name, log, kernel, wanted
-        self.places = None if places is None else places.encode()
+        self.places, self.others = None if places is None else places.encode(), others or {}
+
+    def other_logs(self):
+        """Returns the logs of the programs that it started, each with its places."""
+        logs = {end: data for end, data in self.others.items() if re.fullmatch(r"\d+(\.\d+)?", end)}
+        return [(bytes(data), self.others.get(f"{end}.places", b"")) for end, data in sorted(logs.items())]
 
     def play(self, folder):
         """Returns the status of pim-facts, and both outputs. The path is LOG in what is said."""
         path = pathlib.Path(folder, self.name)
-        for end, data in (("", self.log), (".kernel", self.kernel), (".places", self.places)):
+        others = [(f".{end}", data) for end, data in self.others.items()]
+        for end, data in (("", self.log), (".kernel", self.kernel), (".places", self.places), *others):
             if data is not None:
                 pathlib.Path(f"{path}{end}").write_bytes(data)
         status, out, err = answer([str(CONVERTER), str(path)])
@@ -157,12 +165,15 @@ def stored():
     cases = []
     for name in sorted({path.name.split(".")[0] for path in SUITE.glob("*.*")} - {"README"}):
         parts = files_of(SUITE, name)
+        others = {end: parts.pop(end) for end in [*parts] if end[:1].isdigit()}
+        others = {end.removesuffix(".log.txt"): read_text(text) if end.endswith(".log.txt") else text.encode()
+                  for end, text in others.items()}
         log, kernel, changes = (parts.pop(end, None) for end in ("log.txt", "kernel", "changes"))
         log, kernel = log and read_text(log), kernel if kernel is None else with_head(kernel)
         if changes:
             cases += [changed(name, number, log, kernel, line) for number, line in enumerate(lines_of(changes))]
         else:
-            cases.append(Case(name, log, kernel, **parts))
+            cases.append(Case(name, log, kernel, others=others, **parts))
     return cases
 
 

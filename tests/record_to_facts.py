@@ -3,6 +3,7 @@ logs and of random kernel's events what plain_facts_of_log.py writes. Each text 
 finds valid. Damaged logs are refused, and clang's fuzzer finds no fault, where it is installed."""
 import os
 import pathlib
+import random
 import re
 import shutil
 import subprocess
@@ -14,7 +15,7 @@ import record_suite
 from checks import ROOT, SECONDS, answer, check, difference, skip
 from random_log import RandomLog
 from random_program import FIRST_TASK
-from record_logs import read_text
+from record_logs import log_of, read_text, reader
 from record_suite import CONVERTER, KERNEL_HEAD, ROWS
 
 LOGS, TEXTS, FIRST_SEED, FUZZED = 250, 15, 1, 3000
@@ -246,8 +247,13 @@ class Converter:
     def __init__(self, folder):
         self.path, self.words = pathlib.Path(folder, "facts"), set()
 
-    def run(self, log=None, places=None, kernel=None):
+    def run(self, log=None, places=None, kernel=None, others=()):
         """Returns status, text and what is said of a recording, without its path."""
+        for path in self.path.parent.glob("facts.[0-9]*"):
+            path.unlink()
+        for number, (data, text) in enumerate(others, 800):
+            pathlib.Path(f"{self.path}.{number}").write_bytes(data)
+            pathlib.Path(f"{self.path}.{number}.places").write_bytes(text)
         for end, data in (("", log), (".places", places), (".kernel", kernel)):
             path = pathlib.Path(f"{self.path}{end}")
             if data is None:
@@ -257,10 +263,10 @@ class Converter:
         done = subprocess.run([CONVERTER, self.path], capture_output=True, timeout=SECONDS, check=False)
         return done.returncode, done.stdout, done.stderr.decode().replace(str(self.path), "LOG")
 
-    def why(self, log=None, places=None, kernel=None):
+    def why(self, log=None, places=None, kernel=None, others=()):
         """Returns how the text of a recording differs from that of the plain implementation, or why it isn't valid."""
-        status, out, said = self.run(log, places, kernel)
-        wanted = plain_facts_of_log.text_of(log, places or b"", kernel)
+        status, out, said = self.run(log, places, kernel, others)
+        wanted = plain_facts_of_log.text_of(log, places or b"", kernel, others)
         got = difference((status, said, *out.decode().splitlines()), (0, "", *wanted.splitlines()))
         words = {word for line in wanted.splitlines() for word in line.split()[:6]}
         self.words |= {word for word in words if word.isalpha() or "-" in word}
@@ -285,7 +291,8 @@ def recordings(converter):
     """Recordings that are kept, and those by hand that aren't refused."""
     for case in [*record_suite.kept(), *record_suite.stored()]:
         if "error" not in case.wanted:
-            check(f"the facts of {case.name}", converter.why(case.log and bytes(case.log), case.places, case.kernel))
+            check(f"the facts of {case.name}",
+                  converter.why(case.log and bytes(case.log), case.places, case.kernel, case.other_logs()))
 
 
 def random_logs(converter):
@@ -297,6 +304,30 @@ def random_logs(converter):
             why = converter.why(bytes(data))
             differ.update({f"{kind} {seed}: {why}": why} if why else {})
     check(f"pim-facts writes of {LOGS} random logs what the plain implementation writes", next(iter(differ), None))
+
+
+def random_joined(converter):
+    """Random logs of programs that one started: those of odd seeds are of one version, and can be joined."""
+    differ = {}
+    for seed in range(FIRST_SEED, FIRST_SEED + LOGS, 2):
+        logs = [bytes(RandomLog(seed + more).data()) for more in (0, *random.Random(seed).sample(range(2, 99, 2), 2))]
+        texts = [f"{number} 0x401000 first.c:{number}\n- 0x5000 lock{number}\n".encode() for number in (1, 2, 3)]
+        kernel = kernel_of(seed) if seed % 8 == 1 else None
+        why = converter.why(logs[0], texts[0], kernel, [*zip(logs[1:], texts[1:])])
+        differ.update({f"{seed}: {why}": why} if why else {})
+    check(f"pim-facts writes of {LOGS // 2} programs with those that they started what the plain implementation writes",
+          next(iter(differ), None))
+
+
+def many_places(converter):
+    """Nine logs have more places than a record has numbers for."""
+    rows = [(1, reader.THREAD, 0x10, 0, 0, 0),
+            *((1, reader.GRANTED, 0x5000 | number << 48, 1, 4, 0) for number in (1, 8191, 8192))]
+    logs = [bytes(log_of(rows, 1, places=[0x1000 * part + at for at in range(1, 8193)], began=100 * part,
+                         times=[100 * part] * len(rows))) for part in range(1, 10)]
+    unplaced = converter.run(logs[0], None, None, [(log, b"") for log in logs[1:]])[1].count(b"\nunseen 4 records")
+    check("places for which there is no number",
+          converter.why(logs[0], None, None, [(log, b"") for log in logs[1:]]) or difference((unplaced,), (1,)))
 
 
 def kernel_of(seed):
@@ -408,6 +439,8 @@ def to_facts(folder):
     by_hand(converter)
     recordings(converter)
     random_logs(converter)
+    random_joined(converter)
+    many_places(converter)
     random_events(converter)
     every_word(converter)
     command(converter)

@@ -1,12 +1,15 @@
 /* pim-facts: writes what happened in a recording as text. `help` says how it is used. */
 #define _GNU_SOURCE
+#include "join.h"
 #include "order.h"
 
+#include <dirent.h>
 #include <errno.h>
 #include <fcntl.h>
 #include <getopt.h>
 #include <linux/magic.h>
 #include <stdio.h>
+#include <stdlib.h>
 #include <string.h>
 #include <sys/mman.h>
 #include <sys/stat.h>
@@ -20,7 +23,8 @@ static const char help[] =
     "each fact: who was granted which mutex, who waited for it, and who released it, when, at\n"
     "which priority, and where in the code. LOG is the file that pim-record -o names. What\n"
     "LOG.places says, if it is there, names the places, and LOG.kernel says which threads ran\n"
-    "where, at which priority. LOG may be missing then. docs/FACTS.md specifies the text.\n"
+    "where, at which priority. LOG may be missing then. The logs LOG.PROCESS of programs that\n"
+    "the recorded one started are read, too. docs/FACTS.md specifies the text.\n"
     "\n"
     "  -o, --output FILE   write to FILE, not to standard output\n"
     "  -h, --help          print this\n"
@@ -95,19 +99,89 @@ static int opened(const char *output, const char *path) {
     return file;
 }
 
+/* ---- the logs of the programs that it started ---- */
+
+/* Returns whether a file's name is that of such a log: NAME.PROCESS, or NAME.PROCESS.COUNT. */
+static bool is_other(const char *file, const char *name) {
+    size_t length = strlen(name);
+    if (strncmp(file, name, length) != 0 || file[length] != '.') return false;
+    const char *at = file + length + 1;
+    size_t digits = strspn(at, "0123456789");
+    if (digits && at[digits] == '.') {
+        at += digits + 1;
+        digits = strspn(at, "0123456789");
+    }
+    return digits && at[digits] == '\0';
+}
+
+/* Returns whether a file is a log of the first one's version, which has places. One that was killed
+ * as it began is none. */
+static bool is_log(const struct part *part, const struct part *first) {
+    const struct header *header = (const struct header *)first->bytes;
+    if (part->length < HEADER_BYTES || first->length < HEADER_BYTES) return false;
+    bool is_alike = memcmp(part->bytes, header, offsetof(struct header, header_bytes)) == 0;
+    return is_alike && header->version > 1;
+}
+
+static int by_begin(const void *one, const void *other) {
+    const struct part *a = one, *b = other;
+    uint64_t begin = ((const struct header *)a->bytes)->began_monotonic;
+    uint64_t its = ((const struct header *)b->bytes)->began_monotonic;
+    return begin != its ? (begin < its ? -1 : 1) : strverscmp(a->path, b->path);
+}
+
+/* Returns the log, and behind it those of the programs that it started, by when they began. */
+static struct part *parts_of(const char *path, const char *bytes, size_t length, uint32_t *count) {
+    const char *slash = strrchr(path, '/'), *name = slash ? slash + 1 : path;
+    char *folder = strcpy(resized(NULL, strlen(path) + 2), slash ? path : ".");
+    if (slash) folder[name - path] = '\0';
+    struct part *parts = with_room(NULL, 0, sizeof *parts);
+    parts[0] = (struct part){ path, bytes, length };
+    *count = 1;
+    DIR *files = opendir(folder);
+    for (struct dirent *file; files && (file = readdir(files));) {
+        if (!is_other(file->d_name, name)) continue;
+        char *other = resized(NULL, strlen(path) + sizeof file->d_name);
+        sprintf(other, "%.*s%s", (int)(name - path), path, file->d_name);
+        parts = with_room(parts, *count, sizeof *parts);
+        struct part *part = &parts[*count];
+        part->path = other;
+        part->bytes = mapped(other, true, &part->length);
+        *count += is_log(part, &parts[0]);
+    }
+    if (files) closedir(files);
+    qsort(parts + 1, *count - 1, sizeof *parts, by_begin);
+    return parts;
+}
+
+/* Reads the log, which may be missing, with those of the programs that it started. */
+static void read_logs(struct log *log, struct names *names, const char *path, bool may_lack) {
+    struct part part = { .path = path };
+    uint32_t count = 0;
+    part.bytes = mapped(path, may_lack, &part.length);
+    struct part *parts = part.bytes ? parts_of(path, part.bytes, part.length, &count) : &part;
+    if (count > 1)
+        log_join(log, parts, count);
+    else if (part.bytes || !may_lack)
+        log_read(log, path, part.bytes, part.length, NULL);
+    names_begin(names, log);
+    for (uint32_t i = 0; i == 0 || i < count; i++) {
+        size_t length;
+        const char *places = mapped(beside(parts[i].path, ".places"), true, &length);
+        names_read(names, i, places, length);
+    }
+}
+
 static void convert(const char *path, const char *output) {
     static struct log log;
     static struct names names;
     static struct text text = { .file = STDOUT_FILENO };
     static struct told told = { .log = &log };
     static struct kernel kernel;
-    size_t length, places_length, kernel_length;
+    size_t kernel_length;
     const char *kernel_path = beside(path, ".kernel");
     const char *events = mapped(kernel_path, true, &kernel_length);
-    const char *bytes = mapped(path, events != NULL, &length);
-    if (bytes || !events) log_read(&log, path, bytes, length);
-    const char *places = mapped(beside(path, ".places"), true, &places_length);
-    names_read(&names, &log, places, places_length);
+    read_logs(&log, &names, path, events != NULL);
     find_requests(&told);
     find_waits(&told);
     list_facts(&told);

@@ -34,8 +34,9 @@ static void convert(const char *bytes, size_t length, struct beside beside) {
     if (setjmp(refused) == 0) {
         told = (struct told){ .log = &log };
         text.used = 0;
-        log_read(&log, "log", bytes, length);
-        names_read(&names, &log, beside.places, beside.places_length);
+        log_read(&log, "log", bytes, length, NULL);
+        names_begin(&names, &log);
+    names_read(&names, 0, beside.places, beside.places_length);
         find_requests(&told);
         find_waits(&told);
         list_facts(&told);

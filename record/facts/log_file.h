@@ -26,7 +26,8 @@ struct thread {
     uint32_t name;          /* of the log's names, or NONE */
     uint32_t text_number;   /* in the facts */
     uint32_t first, last;   /* records */
-    uint8_t first_level;    /* that of its THREAD, which it has before that, too */
+    uint8_t first_level;    /* that of its first THREAD, which it has before that, too */
+    bool has_level;
 };
 
 struct mutex {
@@ -43,12 +44,24 @@ struct module {
     uint32_t process, name;
 };
 
+/* What a log that is made of several has: the first one is part 0. */
+struct joined {
+    uint32_t *part_of;     /* by process, which have numbers from 1 on here */
+    uint32_t *first_place; /* by part, the number before those of its places */
+    uint64_t *places;
+    uint32_t place_count;
+    uint64_t missing; /* records for which the logs had no room, and those behind them */
+};
+
 /* Records have numbers from 0 on here, in the order of those of the log, without TEXTs. */
 struct log {
     const char *path;
     const char *bytes;
     size_t length;
     struct header header;
+    const struct joined *joined; /* or NULL */
+    const uint64_t *places;      /* addresses in the code, or 0 */
+    uint32_t place_count;
     uint32_t chunks, count;
     uint32_t *slots;    /* by record; by chunk of a slot: */
     uint32_t *owners;   /* the thread */
@@ -67,8 +80,19 @@ struct log {
     uint64_t ended;         /* the latest time of a record */
 };
 
-/* Reads the bytes of a log. Refuses what is none, or is damaged. */
-void log_read(struct log *log, const char *path, const char *bytes, size_t length);
+/* Reads the bytes of a log. Refuses what is none, or is damaged. `joined` is NULL unless it is made
+ * of several. */
+void log_read(struct log *log, const char *path, const char *bytes, size_t length,
+              const struct joined *joined);
+
+/* Finds the slots of the records by their numbers, and nothing else. Returns a number above each
+ * one that counts. Refuses what log_read does. */
+uint64_t log_index(struct log *log, const char *path, const char *bytes, size_t length);
+
+/* Returns of which of several logs a process is. */
+static inline uint32_t part_of(const struct log *log, uint32_t process) {
+    return log->joined && process != NONE ? log->joined->part_of[process] : 0;
+}
 
 static inline const char *slot_at(const struct log *log, uint32_t slot) {
     return log->bytes + log->header.header_bytes + sizeof(struct record) * slot;
@@ -109,7 +133,7 @@ static inline uint64_t address_of(const struct log *log, const struct record *re
 static inline uint32_t place_of(const struct log *log, const struct record *record) {
     bool has_place = log->header.version > 1 && record->event >= EVENT_REQUEST;
     uint32_t place = has_place ? (uint32_t)(record->object >> PLACE_SHIFT) : 0;
-    return place <= PLACE_SLOTS && place && log->header.places[place - 1] ? place : 0;
+    return place <= log->place_count && place && log->places[place - 1] ? place : 0;
 }
 
 /* Returns the detail of a record's mutex, or 0 where it isn't known. */

@@ -79,18 +79,20 @@ static bool read_address(const char **at, const char *end, uint64_t *address) {
     return digit > begin && digit - begin <= 16 && digit < end && *digit == ' ';
 }
 
-static void read_line(struct names *names, const char *line, const char *end) {
+static void read_line(struct names *names, uint32_t part, const char *line, const char *end) {
     uint64_t address;
     int number = place_number(&line, end);
     if (number < 0 || !read_address(&line, end, &address)) return;
     struct name word = word_of(line, (size_t)(end - line));
     if (word.length == 0) return;
     if (number > 0) {
-        names->numbered[number] = word;
+        uint32_t first = names->log->joined ? names->log->joined->first_place[part] : 0;
+        if (first + (uint32_t)number > UINT16_MAX) return;
+        names->numbered[first + (uint32_t)number] = word;
         names->has_numbered = true;
         return;
     }
-    uint32_t *known = table_at(&names->by_address, address, 0);
+    uint32_t *known = table_at(&names->by_address, address, part);
     if (*known == NONE) {
         names->texts = with_room(names->texts, names->text_count, sizeof *names->texts);
         *known = names->text_count++;
@@ -98,12 +100,12 @@ static void read_line(struct names *names, const char *line, const char *end) {
     names->texts[*known] = word;
 }
 
-static void read_lines(struct names *names, const char *places, size_t length) {
+void names_read(struct names *names, uint32_t part, const char *places, size_t length) {
     const char *end = places + length;
     while (places < end) {
         const char *newline = memchr(places, '\n', (size_t)(end - places));
         const char *behind = newline ? newline : end;
-        read_line(names, places, behind);
+        read_line(names, part, places, behind);
         places = behind + 1;
     }
 }
@@ -185,10 +187,9 @@ static struct name in_module(const struct names *names, const struct module *mod
 
 /* ---- what is asked ---- */
 
-void names_read(struct names *names, struct log *log, const char *places, size_t length) {
+void names_begin(struct names *names, struct log *log) {
     memset(names, 0, sizeof *names);
     names->log = log;
-    read_lines(names, places, length);
     sort_modules(names);
 }
 
@@ -196,7 +197,7 @@ void names_read(struct names *names, struct log *log, const char *places, size_t
 static uint32_t find_word(struct names *names, uint32_t place, uint32_t process) {
     uint32_t *word = table_at(&names->by_process, place, process);
     if (*word == NONE) {
-        uint64_t address = names->log->header.places[place - 1] - 1;
+        uint64_t address = names->log->places[place - 1] - 1;
         names->words = with_room(names->words, names->word_count, sizeof *names->words);
         names->words[*word = names->word_count++] =
             in_module(names, module_at(names, process, address), address);
@@ -217,15 +218,20 @@ const struct name *name_of_place(struct names *names, uint32_t record) {
     return &names->words[number - 1];
 }
 
+/* Returns which text the address of a process has, or NONE. */
+static uint32_t text_at(const struct names *names, uint32_t process, uint64_t address) {
+    return table_get(&names->by_address, address, part_of(names->log, process));
+}
+
 struct name name_of_address(struct names *names, uint32_t process, uint64_t address) {
-    uint32_t text = table_get(&names->by_address, address, 0);
+    uint32_t text = text_at(names, process, address);
     if (text != NONE) return names->texts[text];
     return in_module(names, module_at(names, process, address), address);
 }
 
 /* Returns where a mutex is. */
 static struct name where(struct names *names, const struct mutex *mutex) {
-    if (!mutex->is_shared || table_get(&names->by_address, mutex->address, 0) != NONE)
+    if (!mutex->is_shared || text_at(names, mutex->process, mutex->address) != NONE)
         return name_of_address(names, mutex->process, mutex->address);
     const struct module *module = nearest(names->shared, names->log->module_count, ANY_PROCESS,
                                           mutex->address);
@@ -240,9 +246,9 @@ static struct name where_made(struct names *names, const struct mutex *mutex) {
     if (after == NONE) return nothing;
     const struct record *place = record_at(log, after);
     if (place->event != EVENT_PLACE || place->object == 0) return nothing;
-    uint32_t text = table_get(&names->by_address, place->object, 0);
-    if (text != NONE) return names->texts[text];
     uint32_t process = chunk_at(log, after)->process;
+    uint32_t text = text_at(names, process, place->object);
+    if (text != NONE) return names->texts[text];
     return in_module(names, module_at(names, process, place->object - 1), place->object - 1);
 }
 

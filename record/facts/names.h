@@ -14,18 +14,21 @@ struct names {
     struct log *log;
     struct module *modules; /* of the log, by process and begin, the first of equal ones last */
     struct module *shared;  /* the same, as if all were of one process */
-    struct name numbered[PLACE_SLOTS + 1]; /* by place its text; empty where there is none */
-    struct name *texts;     /* of addresses: */
+    struct name numbered[UINT16_MAX + 1]; /* by place its text; empty where there is none */
+    struct name *texts;     /* of addresses in a log: */
     struct table by_address;
     struct name *words; /* of other places in a process: */
     struct table by_process;
-    struct word last[PLACE_SLOTS + 1]; /* by place what was asked for last */
+    struct word last[UINT16_MAX + 1]; /* by place what was asked for last */
     uint32_t text_count, word_count;
     bool has_numbered;
 };
 
-/* Reads what LOG.places says, which may be empty. */
-void names_read(struct names *names, struct log *log, const char *places, size_t length);
+/* Finds the files that are loaded. */
+void names_begin(struct names *names, struct log *log);
+
+/* Reads what LOG.places of one of several logs says, which may be empty. */
+void names_read(struct names *names, uint32_t part, const char *places, size_t length);
 
 /* Returns what a record's place is called, which is empty if it has none. The next call may move
  * it. */

@@ -319,7 +319,9 @@ static void put_loss(struct order *order, uint64_t count) {
 /* Writes how many records are missing, if there was no room for one: it, and all after it. */
 static void put_missing(struct order *order) {
     const struct header *header = &order->log->header;
-    if (header->first_lost) put_loss(order, header->next_number - header->first_lost);
+    uint64_t missing = order->log->joined ? order->log->joined->missing : 0;
+    if (header->first_lost) missing = header->next_number - header->first_lost;
+    if (missing) put_loss(order, missing);
 }
 
 /* A thread waits for a futex, unless it waits for something by the log. */
