@@ -59,6 +59,7 @@ class Kernel:
         times = [event.time for event in whole.events]
         self.is_whole = whole.end is not None
         self.ended = max([whole.head.began, *times, *([whole.end[0]] if whole.end else [])])
+        self.last = max([whole.head.began, *times])
         self.names = {event.values[0]: event.values[1] for event in whole.events if event.what == "name"}
         self.losses = sorted((event.values[1], event.time, event.values[0]) for event in whole.lost())
         waits = Waits("".join(f"{line}\n" for line in kept))

@@ -4,6 +4,7 @@ It takes what happened from log_facts.py, and puts it into an order in which the
 each fact it looks through those before it and behind it.
 """
 import re
+import struct
 from collections import namedtuple
 
 import log_facts
@@ -14,6 +15,7 @@ from record_logs import reader
 
 MOST_LEVEL, MOST_TIME, LAST_THREAD, MOST_THREADS = 100, 10**19 - 1, 2**32 - 2, 65536
 NAME_BYTES, INIT_BYTES, MOST_PLACES = 64, 48, 16
+ENDED_AT = 72  # in the header
 MODULE_BYTES, MOST_PARENTS, MOST_NUMBER = 1 << 24, 16, 8192
 NOT_PLACES = "by", "failed", "of", "timed-out"
 BLOCKS, RESUMES, UNKNOWN, OTHER = "blocks", "resumes", "unknown", "other"
@@ -232,7 +234,10 @@ class Writer:
         blocks = Blocks(self.log.records).all() if whole.head.version >= reader.KINDS_SINCE else []
         self.mutexes = numbered(self.log.mutexes.of.values())
         self.facts = facts_of(self.log, blocks)
-        self.began, self.ended = whole.head.began, max([whole.head.began, *(one.time for one in self.log.records)])
+        self.headers_ended = [struct.unpack_from("<Q", log.data, ENDED_AT)[0]
+                              for log in getattr(whole, "logs", [whole]) if log.data]
+        self.began = whole.head.began
+        self.ended = max([self.began, *self.headers_ended, *(one.time for one in self.log.records)])
         self.kernel, self.kernel_facts = None, []
         tasks = [task for _, task in self.log.identity.values()]
         self.shared = {task for task in tasks if tasks.count(task) > 1}
@@ -263,7 +268,8 @@ class Writer:
         if is_alone:
             self.began = self.ended = kernel.began
         self.kernel, self.kernel_facts = kernel, list(kernel.facts())
-        self.ended = max(self.ended, kernel.ended)
+        is_ended = any(self.headers_ended) and kernel.last > 0
+        self.ended = max(self.ended, kernel.last if is_ended else kernel.ended)
         self.shown = {*self.tasks, *kernel.shown()} - self.shared
 
     def record_of(self, task, address, slept):
@@ -604,7 +610,7 @@ class Writer:
 
 class NoLog:
     """In place of a log: what is asked of one without records."""
-    records = ()
+    records, data = (), b""
     head = reader.Head(*([None] * len(reader.Head._fields)))._replace(began=0, version=0)
 
 

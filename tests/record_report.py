@@ -173,6 +173,42 @@ def wrappers(folder):
         check(name, found.fault() or difference((found.status, found.waits()), wanted))
 
 
+# A thread waits for a mutex until the program is killed, a tenth of a second later or more.
+HANGS = """#define _GNU_SOURCE
+#include "common.h"
+#include <signal.h>
+static pthread_mutex_t mutex = PTHREAD_MUTEX_INITIALIZER;
+static _Atomic pid_t waits;
+static void *wait_for(void *nothing) {
+    comes(&waits);
+    pthread_mutex_lock(&mutex);
+    return nothing;
+}
+int main(int count, char **arguments) {
+    (void)arguments;
+    pthread_mutex_lock(&mutex);
+    start(wait_for, NULL);
+    while (!waits) rest(1);
+    until_waits(&waits);
+    rest(100);
+    if (count > 1) abort();
+    return raise(SIGKILL);
+}
+"""
+
+
+def hangs(folder):
+    """What holds as a program is killed or aborted lasts until then, though no record comes."""
+    program = compiled(folder, "hangs.c", HANGS, f"-I{SOURCES}")
+    for name, words, options in (("is killed", [], []), ("aborts", ["abort"], []),
+                                 ("is killed, with --last", [], ["--last", "1M"])):
+        _, log = recorded(folder, program, *words, options=options)
+        found = Report(log)
+        lasted = [wait["lasted"] // (100 * MILLISECOND) for wait in found.found.get("waits", ())]
+        check(f"a wait of a program that {name}",
+              found.fault() or (None if len(lasted) == 1 and lasted[0] >= 1 else f"{lasted}"))
+
+
 def missed(folder):
     """Each wait of high in missed is for low, also one that began while the mutex was free: low
     was quicker. There may be none where the two seldom run at one time: then there is another
@@ -381,7 +417,7 @@ def hooks(folder):
 
 def reports(attempt, folder):
     """Each part, of which one that breaks off leaves the others as they are."""
-    for part in (programs, wrappers, missed, objects, kernel, static, code_places, places, callers, real,
+    for part in (programs, wrappers, hangs, missed, objects, kernel, static, code_places, places, callers, real,
                  latest, small_rings, hooks):
         with tempfile.TemporaryDirectory(dir=folder) as own:
             attempt(part, own)

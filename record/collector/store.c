@@ -187,6 +187,7 @@ static void write_header(struct store *of) {
     if (atomic_load(&of->view->header.next_number) == 0) return; /* the program hasn't filled it */
     memcpy(&header, &of->view->header, FIELDS_BYTES);
     header.chunks = of->chunks;
+    header.ended = of->ended;
     if (!cover(of, &header)) return;
     header.lost += of->lost;
     uint64_t first_lost = header.first_lost;
@@ -357,6 +358,7 @@ static bool copy_begun(struct store *of) {
 /* Records that take a number from now on aren't all there: the chunks are copied one by one. */
 bool store_prepare_snapshot(struct store *of) {
     of->end = atomic_load(&of->view->header.next_number);
+    of->ended = clock_time();
     store_collect(of, true);
     return copy_begun(of);
 }
@@ -364,6 +366,7 @@ bool store_prepare_snapshot(struct store *of) {
 static bool write_ring(const struct store *of, int file) {
     struct header header;
     memcpy(&header, &of->view->header, sizeof header);
+    header.ended = of->ended;
     return extract(of->ring, of->begun, of->begun_count, of->end, &header, file);
 }
 
@@ -420,6 +423,7 @@ static void remove_file(const struct store *of) {
 }
 
 void store_end(struct store *ended) {
+    ended->ended = clock_time();
     collect_chunks(ended, NULL, true);
     if (ended->ring)
         end_ring(ended);

@@ -39,6 +39,7 @@ struct store {
     struct begun *begun;       /* copies of the chunks that were begun, for a snapshot */
     size_t begun_count;
     uint64_t end;              /* of a snapshot: it has the records with lower numbers */
+    uint64_t ended;            /* when that was, or when no process had the memory any more */
     unsigned char header[HEADER_BYTES]; /* as the file has it */
     char path[PATH_MAX];
 };

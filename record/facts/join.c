@@ -178,6 +178,7 @@ static void add_header(struct joining *all, struct source *source) {
     source->first_chunk = (uint32_t)all->header->next_chunk;
     all->header->next_chunk += source->log.chunks;
     all->header->next_thread += header->next_thread;
+    if (header->ended > all->header->ended) all->header->ended = header->ended;
     all->header->known &= header->known;
     all->header->left_out += header->left_out;
     all->header->dropped += header->dropped;

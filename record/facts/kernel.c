@@ -424,5 +424,8 @@ void kernel_read(struct kernel *kernel, struct told *told, const char *path, con
     add_objects(&reading);
     find_leaves(&reading);
     list_events(&reading);
-    if (reading.events.ended > log->ended) log->ended = reading.events.ended;
+    uint64_t ended = reading.events.ended; /* some time after the program did */
+    if (log->header.ended && reading.events.count)
+        ended = reading.events.list[reading.events.count - 1].time;
+    if (ended > log->ended) log->ended = ended;
 }

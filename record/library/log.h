@@ -131,6 +131,7 @@ struct header {
     uint64_t began_realtime;
     uint32_t command_bytes;
     uint32_t contents;
+    uint64_t ended; /* in the file: when the collector saw that no process has the memory, or 0 */
     _Alignas(64) _Atomic uint64_t next_number;
     _Alignas(64) _Atomic uint64_t next_chunk;
     _Atomic uint64_t next_thread;
