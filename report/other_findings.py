@@ -1,5 +1,6 @@
 """Findings of deadlocks, opposite orders, waits for what isn't a mutex, and what the kernel ran."""
 from finding import TOLERANCE, Finding, distinct
+from gates import Gates
 from rows_text import FAILED, TIMED_OUT
 from words import moment
 
@@ -60,17 +61,20 @@ class OtherFindings:
         return [f"{self.names.threads(others)} {verb} for {whom}"]
 
     def orders(self):
-        """Two mutexes for which two threads asked in opposite orders: they can deadlock."""
+        """Two mutexes for which two threads asked in opposite orders: they can deadlock, unless
+        both owned a third one each time."""
         pairs = {}
         for nest in self.rows.nests:
             pairs.setdefault((nest.outer, nest.inner), []).append(nest)
         last = self.recording.all_rows.open_waits()
         dead = [{last[thread].mutex for thread in cycle}
                 for cycle in self.recording.all_rows.deadlocks]
-        for (outer, inner), ones in pairs.items():
-            others = pairs.get((inner, outer), ())
+        opposite = {pair for pair in pairs if pair[::-1] in pairs}
+        gates = Gates(self.facts, opposite) if opposite else None
+        for outer, inner in filter(opposite.__contains__, pairs):
+            ones, others = pairs[outer, inner], pairs[inner, outer]
             both = next(((one, other) for one in ones for other in others
-                         if one.thread != other.thread), None)
+                         if one.thread != other.thread and not gates.are_apart(one, other)), None)
             if both and outer < inner and {outer, inner} not in dead:
                 yield self.order(both, [*ones, *others])
 
