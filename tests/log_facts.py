@@ -22,7 +22,7 @@ POLICY, FIFO, RR, DEADLINE, KEPT = 15, 1, 2, 6, 15
 OTHER_LEVEL, DEADLINE_LEVEL = 0, 100
 PROTECT = 0x40
 TRYLOCK, CALL = 1, 0x7F
-TIMED_OUT = 110  # ETIMEDOUT
+TIMED_OUT, NOT_RECOVERABLE = 110, 131  # ETIMEDOUT, ENOTRECOVERABLE
 
 
 def level_of(detail, before):
@@ -280,7 +280,18 @@ class World:
         if owner == thread:
             return self.request_own(record)
         facts = self.other_ceiling(record) + self.goes_on(thread)
+        if self.was_refused(record):
+            return facts
         return facts + self.begin_to_wait(thread, mutex, self.owner_at(record))
+
+    def was_refused(self, request):
+        """Returns whether the call of a REQUEST was refused, so that it didn't wait."""
+        answer = self.log.next_of.get(request.number)
+        while answer is not None and answer.event == reader.FRAME:
+            answer = self.log.next_of.get(answer.number)
+        if answer is None or answer.event != reader.FAILED or answer.how in (TIMED_OUT, NOT_RECOVERABLE):
+            return False
+        return self.mutexes.of[answer.number] == self.mutexes.of[request.number]
 
     def request_own(self, record):
         """A thread asks for a mutex that it owns. It waits for itself from then on, or no more if that is recursive."""

@@ -2,6 +2,8 @@
 #define _GNU_SOURCE
 #include "told.h"
 
+#include <errno.h>
+
 /* Who owns and awaits what up to a record. */
 struct world {
     struct told *told;
@@ -155,6 +157,17 @@ static void request_own(struct world *world, uint32_t thread, uint32_t mutex) {
     fact->flags = IS_OWN;
 }
 
+/* Returns whether the call of a REQUEST was refused, so that it didn't wait: the next record of its
+ * thread, behind its FRAMEs, says so. */
+static bool was_refused(const struct log *log, uint32_t request) {
+    uint32_t next = log->next[request];
+    while (next != NONE && record_at(log, next)->event == EVENT_FRAME) next = log->next[next];
+    if (next == NONE || log->mutex_of[next] != log->mutex_of[request]) return false;
+    const struct record *answer = record_at(log, next);
+    bool may_have_waited = answer->how == ETIMEDOUT || answer->how == ENOTRECOVERABLE;
+    return answer->event == EVENT_FAILED && !may_have_waited;
+}
+
 static void request(struct world *world, uint32_t thread, uint32_t mutex) {
     if (world->awaits[thread] == mutex) return;
     if (world->owner[mutex] == thread) {
@@ -164,6 +177,7 @@ static void request(struct world *world, uint32_t thread, uint32_t mutex) {
     uint32_t owner = owner_at(world, thread, mutex);
     see_ceiling(world, thread, mutex);
     go_on(world, thread, NONE);
+    if (was_refused(world->log, world->at)) return;
     world->awaits[thread] = mutex;
     struct fact *fact = say(world, WAITS, thread, mutex);
     fact->other = owner;
