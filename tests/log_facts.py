@@ -289,7 +289,8 @@ class World:
         answer = self.log.next_of.get(request.number)
         while answer is not None and answer.event == reader.FRAME:
             answer = self.log.next_of.get(answer.number)
-        if answer is None or answer.event != reader.FAILED or answer.how in (TIMED_OUT, NOT_RECOVERABLE):
+        is_failed = answer is not None and answer.event == reader.FAILED
+        if not is_failed or answer.how in (TIMED_OUT, NOT_RECOVERABLE):
             return False
         return self.mutexes.of[answer.number] == self.mutexes.of[request.number]
 

@@ -1,5 +1,5 @@
-/* Makes one log of several: FACTS-OF-LOGS.md, 'Several programs'. Each record has another number, and
- * is where it was in its chunk. What each log counts by itself has other numbers, too: threads,
+/* Makes one log of several: FACTS-OF-LOGS.md, 'Several programs'. Each record has another number,
+ * and is where it was in its chunk. What each log counts by itself has other numbers, too: threads,
  * processes, places. */
 #define _GNU_SOURCE
 #include "join.h"
