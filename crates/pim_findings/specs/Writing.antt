@@ -16,13 +16,15 @@ pub record Stops (old new : Told) (bytes : List ℕ) (fault : Fault) : Type 0 wh
 
 -- the bytes were appended, or it stopped
 abbrev pub Writes : {T : Type 0} → Told → Told → List ℕ → Result T Fault → Type 0
-Writes {T} old new bytes result = MatchResult result (λ done. Puts old new bytes []) (Stops old new bytes)
+Writes {T} old new bytes result =
+    MatchResult result (λ done. Puts old new bytes []) (Stops old new bytes)
 
 -- the bytes are a text, its rows were appended, and this is its status
 abbrev pub Finds : List ℕ → Told → Told → ℕ → Type 0
 Finds bytes old new status =
     (lines : List Line) × Says (lines_of bytes) lines
-    × Appends old.contents new.contents (text_of (rows_of (moments_of lines))) × (status ≡ status_of (moments_of lines))
+    × Appends old.contents new.contents (text_of (rows_of (moments_of lines)))
+    × (status ≡ status_of (moments_of lines))
 
 -- the bytes are a text, and a prefix of its rows was appended
 abbrev pub FindsFront : List ℕ → Told → Told → Type 0

@@ -40,12 +40,13 @@ Exit status: 0 no wait was inverted and there is no deadlock at the end, 1 other
 where that failed, 'pim-findings: memory' when out of memory; or a wrong command line. If a line is invalid no row is
 written.";
 
-/// Returns the path of the file that the arguments name, or `None` if they name none. The first argument is the program's
-/// name.
+/// Returns the path of the file that the arguments name, or `None` if they name none. The first
+/// argument is the program's name.
 ///
 /// # Errors
 ///
-/// The error has the text to show: help, the version, or what is wrong. It is out of memory if an allocation failed.
+/// The error has the text to show: help, the version, or what is wrong. It is out of memory if an
+/// allocation failed.
 pub(crate) fn parse_arguments<'a>(
     alloc: Global,
     words: &'a [&'a str],
@@ -62,7 +63,8 @@ fn pim_findings<'a>(alloc: Global) -> Result<Command<'a>, AllocError> {
         .action(ArgAction::Set);
     Command::new(alloc, "pim-findings")
         .about(
-            "Say what follows from facts: how long threads waited, and which waits a low thread made longer",
+            "Say what follows from facts: how long threads waited, \
+            and which waits a low thread made longer",
         )
         .override_usage("pim-findings [FILE]")
         .version("0.2.0")

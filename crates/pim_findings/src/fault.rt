@@ -15,7 +15,8 @@ pub enum Fault {
     Line(usize, Why),
     /// A read failed. Nothing was written.
     Read,
-    /// A write failed, or took no byte of a piece that wasn't empty. A prefix of the rows was written.
+    /// A write failed, or took no byte of a piece that wasn't empty. A prefix of the rows was
+    /// written.
     Write,
     /// Out of memory. Nothing was written.
     Memory,

@@ -1,8 +1,9 @@
 //! The program `pim-findings`: says what follows from a text of facts.
 //!
-//! It passes standard input or a file, and standard output, to `print_findings`, which reads the text and writes its rows.
-//! Its contract says what is written: `pim_rows` finds it, and all of that is proved. `main` has only what no contract can
-//! say: the streams, the texts and the process.
+//! It passes standard input or a file, and standard output, to `print_findings`, which reads the
+//! text and writes its rows. Its contract says what is written: `pim_rows` finds it, and all of
+//! that is proved. `main` has only what no contract can say: the streams, the texts and the
+//! process.
 #![tactic(auto)]
 
 mod command_line;

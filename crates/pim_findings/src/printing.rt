@@ -16,11 +16,13 @@ use std::alloc::Global;
 
 /// Reads a text of facts to its end, and writes its rows. Returns its status, 0 or 1.
 ///
-/// The clauses on bytes hold for streams whose contents are known, such as `MemoryReader` and `MemoryWriter`.
+/// The clauses on bytes hold for streams whose contents are known, such as `MemoryReader` and
+/// `MemoryWriter`.
 ///
 /// # Errors
 ///
-/// `Line` of the first invalid line; `Read` or `Write` if that failed in this call; `Memory` if out of memory.
+/// `Line` of the first invalid line; `Read` or `Write` if that failed in this call; `Memory` if out
+/// of memory.
 pub fn print_findings<R: Source, W: Sink>(
     alloc: Global,
     reader: &mut R,
@@ -31,7 +33,8 @@ pub fn print_findings<R: Source, W: Sink>(
         Finds bytes (W.told writer.old) (W.told writer.new) status)) }
 
     // The reader is at its end.
-    ensures end { IfOk result (λ _. IfSome (R.remaining reader.old) (λ _. R.remaining reader.new ≡ Some [])) }
+    ensures end { IfOk result
+        (λ _. IfSome (R.remaining reader.old) (λ _. R.remaining reader.new ≡ Some [])) }
 
     // Line n is the first invalid one, and nothing was written.
     ensures line { (n : ℕ) (why : Why) → result ≡ Err (Fault.Line n why)
@@ -40,10 +43,13 @@ pub fn print_findings<R: Source, W: Sink>(
         → (W.told writer.new).contents ≡ (W.told writer.old).contents }
 
     // A read failed in this call, and nothing was written.
-    ensures read { result ≡ Err Fault.Read → Happened (R.failures reader.old) (R.failures reader.new) }
-    ensures read_unwritten { result ≡ Err Fault.Read → (W.told writer.new).contents ≡ (W.told writer.old).contents }
+    ensures read { result ≡ Err Fault.Read
+        → Happened (R.failures reader.old) (R.failures reader.new) }
+    ensures read_unwritten { result ≡ Err Fault.Read
+        → (W.told writer.new).contents ≡ (W.told writer.old).contents }
 
-    // A write failed in this call, or took no byte of a piece that wasn't empty. A prefix of the rows was written.
+    // A write failed in this call, or took no byte of a piece that wasn't empty. A prefix of the
+    // rows was written.
     ensures write { result ≡ Err Fault.Write → Fails (W.told writer.old) (W.told writer.new) }
     ensures write_front { result ≡ Err Fault.Write → IfSome (R.remaining reader.old) (λ bytes.
         FindsFront bytes (W.told writer.old) (W.told writer.new)) }
@@ -61,10 +67,12 @@ pub fn print_findings<R: Source, W: Sink>(
 fn read_findings<R: Source>(alloc: Global, reader: &mut R) -> Result<Findings, Fault>
     ensures ok { IfOk result (λ findings. IfSome (R.remaining reader.old) (λ bytes.
         AreFound (lines_of bytes) findings)) }
-    ensures end { IfOk result (λ _. IfSome (R.remaining reader.old) (λ _. R.remaining reader.new ≡ Some [])) }
+    ensures end { IfOk result
+        (λ _. IfSome (R.remaining reader.old) (λ _. R.remaining reader.new ≡ Some [])) }
     ensures line { (n : ℕ) (why : Why) → result ≡ Err (Fault.Line n why)
         → IfSome (R.remaining reader.old) (λ bytes. IsFirstInvalid (lines_of bytes) n) }
-    ensures read { result ≡ Err Fault.Read → Happened (R.failures reader.old) (R.failures reader.new) }
+    ensures read { result ≡ Err Fault.Read
+        → Happened (R.failures reader.old) (R.failures reader.new) }
     ensures unwritten { result ≡ Err Fault.Write → ⊥ }
 {
     let bytes = read_all(alloc, reader)?;

@@ -14,8 +14,10 @@ const PIECE: usize = 16_384;
 /// Reads all the bytes that are left.
 pub(crate) fn read_all<R: Source>(alloc: Global, reader: &mut R) -> Result<Vec<u8>, Fault>
     ensures ok { IfOk result (λ bytes. ReadsAll (R.remaining reader.old) bytes.items) }
-    ensures end { IfOk result (λ _. IfSome (R.remaining reader.old) (λ _. R.remaining reader.new ≡ Some [])) }
-    ensures read { result ≡ Err Fault.Read → Happened (R.failures reader.old) (R.failures reader.new) }
+    ensures end { IfOk result
+        (λ _. IfSome (R.remaining reader.old) (λ _. R.remaining reader.new ≡ Some [])) }
+    ensures read { result ≡ Err Fault.Read
+        → Happened (R.failures reader.old) (R.failures reader.new) }
     ensures others { IfErr result (λ fault. (fault ≡ Fault.Read) ⊎ (fault ≡ Fault.Memory)) }
 {
     let mut bytes = Vec::new(alloc);
