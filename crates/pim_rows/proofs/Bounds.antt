@@ -11,7 +11,7 @@ use Rattle.pim_waits.specs.Waiting.{gets, runner}
 use Rattle.pim_waits.proofs.Owning.{base-le-own}
 use Rattle.pim_world.specs.Worlds.{World, blocked_at}
 use Rattle.pim_rows.specs.Moments.{Moment, now, clock, stretch, began, time}
-use Rattle.pim_rows.specs.Standing.{waits, could_run, inverted_by, is_lower, meanwhile_of}
+use Rattle.pim_world.specs.Standing.{waits, could_run, inverted_by, is_lower, meanwhile_of}
 use Rattle.pim_rows.specs.Laws.{IsInOrder, BoundsLaw, is_inverted, is_stalled, has_meanwhile}
 use Rattle.pim_rows.proofs.Sums.{sums_law}
 

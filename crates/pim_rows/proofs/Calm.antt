@@ -7,7 +7,7 @@ use Rattle.std.proofs.lemmas.Bool.Decides.{eqb_tells}
 use Rattle.std.proofs.lemmas.Option.{slice_get_past}
 use Rattle.pim_base.specs.Lists.{nth, contains}
 use Rattle.pim_rows.specs.Moments.{Moment, now}
-use Rattle.pim_rows.specs.Standing.{waits, inverted_by, inverted_key}
+use Rattle.pim_world.specs.Standing.{waits, inverted_by, inverted_key}
 use Rattle.pim_rows.specs.AllOpen.{AreOpen, AreInverted, IsCalm}
 use Rattle.pim_rows.specs.declared.open_wait.OpenWait.{OpenWait}
 use Rattle.pim_rows.proofs.StillKept.{kept_here}

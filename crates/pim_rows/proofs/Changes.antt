@@ -6,7 +6,7 @@ use Rattle.std.proofs.lemmas.Bool.{and_from, eq-eqb, ne_eqb, cond-false}
 use Rattle.std.proofs.lemmas.List.Sums.{prefix_len-le-length, sum_by-cons}
 use Rattle.std.specs.List.{position}
 use Rattle.std.specs.Option.{option_map_or}
-use Rattle.pim_rows.specs.Standing.{Key}
+use Rattle.pim_world.specs.Standing.{Key}
 use Rattle.pim_rows.specs.Tables.{Table, same_key, precedes, reaches, place, value_at, change, add}
 use Rattle.pim_rows.specs.Tables.{total}
 

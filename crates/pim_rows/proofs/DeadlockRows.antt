@@ -20,7 +20,7 @@ use Rattle.pim_world.specs.Worlds.{World}
 use Rattle.pim_world.specs.Steady.{IsSteady}
 use Rattle.pim_world.proofs.Steadiness.{steady_law}
 use Rattle.pim_rows.specs.Moments.{now}
-use Rattle.pim_rows.specs.Standing.{thread_number}
+use Rattle.pim_world.specs.Standing.{thread_number}
 use Rattle.pim_rows.specs.Rows.{before, is_least, is_first_of_cycle, moments_of}
 use Rattle.pim_rows.specs.DeadlockRows.{LeadsBack, row_threads, IsDeadlock, DeadlockLaw}
 use Rattle.pim_rows.proofs.Cycles.{hops as ahead, drop-chain}

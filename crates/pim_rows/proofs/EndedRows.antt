@@ -13,7 +13,7 @@ use Rattle.pim_world.specs.Worlds.{blocked_at}
 use Rattle.pim_world.specs.After.{after}
 use Rattle.pim_world.specs.Following.{may_happen}
 use Rattle.pim_rows.specs.Moments.{Moment, now, number, clock, began, followed_by}
-use Rattle.pim_rows.specs.Standing.{waits}
+use Rattle.pim_world.specs.Standing.{waits}
 use Rattle.pim_rows.specs.Tallies.{Tally, tally, total}
 use Rattle.pim_rows.specs.Episodes.{is_blocked}
 use Rattle.pim_rows.specs.Begun.{WaitStart, wait_start, Block, block}

@@ -6,7 +6,7 @@ use Rattle.pim_fact_lines.specs.declared.line.Line.{Line}
 use Rattle.pim_world.specs.Worlds.{World}
 use Rattle.pim_world.specs.After.{after, set}
 use Rattle.pim_rows.specs.Moments.{Moment, now, number, followed_by}
-use Rattle.pim_rows.specs.Standing.{waits}
+use Rattle.pim_world.specs.Standing.{waits}
 use Rattle.pim_rows.specs.Episodes.{is_blocked, is_owned}
 use Rattle.pim_rows.specs.Found.{actor, mutex_of}
 use Rattle.pim_rows.specs.Starts.{AreStarts}

@@ -15,7 +15,7 @@ use Rattle.pim_world.proofs.Unknown.{nth-append_none}
 use Rattle.pim_rows.specs.Found.{actor, locked_mutex, mutex_of}
 use Rattle.pim_world.specs.After.{at, at_time, with_state, after, after_what, locked, unlocked}
 use Rattle.pim_world.specs.declared.kernel.Off.TheVariants as offs
-use Rattle.pim_rows.specs.Standing.{off_of}
+use Rattle.pim_world.specs.Standing.{off_of}
 use Rattle.pim_rows.specs.OffTimes.{is_lost}
 
 -- a state of either case has what both have

@@ -19,8 +19,8 @@ use Rattle.pim_world.specs.After.{after}
 use Rattle.pim_world.specs.Steady.{IsSteadyKernel, IsSteady}
 use Rattle.pim_world.proofs.Steadiness.{steady_law}
 use Rattle.pim_rows.specs.Moments.{Moment, now, first_moments, followed_by}
-use Rattle.pim_rows.specs.Standing.{could_run, inverted_by, meanwhile_of, in_place_of, is_ready_off}
-use Rattle.pim_rows.specs.Standing.{off_of, run_level}
+use Rattle.pim_world.specs.Standing.{could_run, inverted_by, meanwhile_of, in_place_of, is_ready_off}
+use Rattle.pim_world.specs.Standing.{off_of, run_level}
 use Rattle.pim_rows.specs.Rows.{moments_of}
 use Rattle.pim_rows.specs.Laws.{is_inverted}
 use Rattle.pim_rows.specs.Inversions.{HasInversionLaws, InversionLaw}

@@ -5,7 +5,6 @@ pub mod Running
 pub mod Changes
 pub mod TableLemmas
 pub mod Underway
-pub mod Same
 pub mod Summed
 pub mod Waiting
 pub mod Sums

@@ -16,7 +16,7 @@ use Rattle.pim_fact_lines.specs.declared.line.Line.{Line}
 use Rattle.pim_world.specs.Worlds.{World}
 use Rattle.pim_world.specs.After.{after}
 use Rattle.pim_rows.specs.Moments.{Moment, now, number, followed_by, clock}
-use Rattle.pim_rows.specs.Standing.{standing, waits}
+use Rattle.pim_world.specs.Standing.{standing, waits}
 use Rattle.pim_rows.specs.Tallies.{Tally, tally}
 use Rattle.pim_rows.specs.Found.{actor}
 use Rattle.pim_rows.specs.OpenWaits.{Follows, IsUntil, ShowsWait, Begins, Renews}

@@ -19,7 +19,7 @@ use Rattle.pim_world.specs.After.{after, after_what, at_time}
 use Rattle.pim_base.specs.State.{with_wait}
 use Rattle.pim_rows.specs.declared.runs.RunChange.{RunChange}
 use Rattle.pim_rows.specs.declared.runs.RunLevels.{RunLevels}
-use Rattle.pim_rows.specs.Standing.{thread_number, runs_of}
+use Rattle.pim_world.specs.Standing.{thread_number, runs_of}
 use Rattle.pim_rows.specs.Episodes.{run_apart}
 use Rattle.pim_rows.specs.Rows.{by_number}
 use Rattle.pim_rows.specs.Runs.{AreChanges, IsEven, runs_now, is_runs, levels_of, change_of}

@@ -25,10 +25,10 @@ use Rattle.pim_world.specs.Worlds.{World, Kernel, no_world, blocked_at, last_cpu
 use Rattle.pim_world.specs.After.{after, after_what, at_time}
 use Rattle.pim_world.specs.Touching.{declares}
 use Rattle.pim_world.proofs.Touching.{outside_both}
-use Rattle.pim_rows.specs.declared.tally.Standing.{Standing}
-use Rattle.pim_rows.specs.Standing.{Key, standing, waits, thread_number, mutex_number, off_of}
-use Rattle.pim_rows.specs.Standing.{is_ready_off, in_place_of, could_run, run_level, meanwhile_of}
-use Rattle.pim_rows.specs.Standing.{inverted_by, inverted_key, stalled_key, meanwhile_key}
+use Rattle.pim_world.specs.declared.standing.Standing.{Standing}
+use Rattle.pim_world.specs.Standing.{Key, standing, waits, thread_number, mutex_number, off_of}
+use Rattle.pim_world.specs.Standing.{is_ready_off, in_place_of, could_run, run_level, meanwhile_of}
+use Rattle.pim_world.specs.Standing.{inverted_by, inverted_key, stalled_key, meanwhile_key}
 use Rattle.pim_rows.specs.Affected.{AreWaits, affects_all, is_of_object, is_of_state, keeps_rest}
 use Rattle.pim_rows.specs.AllOpen.{AreSame}
 use Rattle.pim_rows.proofs.Frames.{by_grant, by_take, by_wait, by_release, by_ceiling, at_kept}

@@ -15,7 +15,7 @@ use Rattle.pim_world.specs.Worlds.{World, no_world}
 use Rattle.pim_world.specs.After.{after, after_what, at, at_time, locked, unlocked, with_state}
 use Rattle.pim_world.proofs.Unknown.{nth-append_none}
 use Rattle.pim_rows.specs.Moments.{Moment, now, number, stretch, first_moments, followed_by, began}
-use Rattle.pim_rows.specs.Standing.{Key, is_off, off_of, mutex_number}
+use Rattle.pim_world.specs.Standing.{Key, is_off, off_of, mutex_number}
 use Rattle.pim_rows.specs.Tables.{Table, same_key, precedes, change}
 use Rattle.pim_rows.specs.Episodes.{is_owned, off_time}
 use Rattle.pim_rows.specs.Begun.{Grant, grant}

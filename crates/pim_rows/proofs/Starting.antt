@@ -5,7 +5,7 @@ use Rattle.std.proofs.lemmas.Bool.Decides.{eqb_tells}
 use Rattle.pim_world.specs.Worlds.{World}
 use Rattle.pim_world.specs.After.{set}
 use Rattle.pim_rows.specs.Moments.{Moment, now, began, first_moments}
-use Rattle.pim_rows.specs.Standing.{waits}
+use Rattle.pim_world.specs.Standing.{waits}
 use Rattle.pim_rows.specs.Episodes.{is_blocked, is_owned}
 use Rattle.pim_rows.specs.Starts.{AreStarts}
 

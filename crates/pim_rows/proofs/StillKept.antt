@@ -5,7 +5,7 @@ use Rattle.std.proofs.lemmas.Bool.Decides.{eqb_tells}
 use Rattle.std.specs.Prelude.{nat_lt}
 use Rattle.pim_base.specs.Lists.{nth}
 use Rattle.pim_rows.specs.Moments.{Moment, now, began}
-use Rattle.pim_rows.specs.Standing.{waits}
+use Rattle.pim_world.specs.Standing.{waits}
 use Rattle.pim_rows.specs.Begun.{WaitStart, wait_start}
 use Rattle.pim_rows.specs.Tallies.{Tally, tally, total}
 use Rattle.pim_rows.specs.Rows.{wait_rows, lasting_wait, text_of}

@@ -1,6 +1,6 @@
 -- Times that are added to a tally.
 use Rattle.std.proofs.Common.{◌≡◌, ℕ, ◌+◌, ◌≤◌, Bool, true, false, arith, if◌then◌else◌}
-use Rattle.pim_rows.specs.Standing.{Standing}
+use Rattle.pim_world.specs.declared.standing.Standing.{Standing}
 use Rattle.pim_rows.specs.Tallies.{Tally, IsWithin, with_time}
 use Rattle.pim_rows.proofs.Changes.{add-add, add-zero_time, total-add}
 

@@ -6,7 +6,7 @@ use Rattle.std.proofs.lemmas.Bool.{cond-true, cond-false}
 use Rattle.pim_waits.specs.Waiting.{runner}
 use Rattle.pim_world.specs.Worlds.{World, blocked_at}
 use Rattle.pim_rows.specs.Moments.{Moment, now, time, stretch}
-use Rattle.pim_rows.specs.Standing.{standing, waits, is_lower, inverted_by, meanwhile_of}
+use Rattle.pim_world.specs.Standing.{standing, waits, is_lower, inverted_by, meanwhile_of}
 use Rattle.pim_rows.specs.Tables.{total}
 use Rattle.pim_rows.specs.Tallies.{Tally, tally, with_time, no_tally}
 use Rattle.pim_rows.specs.Laws.{is_inverted, is_stalled, has_meanwhile, SumsLaw}

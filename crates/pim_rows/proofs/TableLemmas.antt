@@ -11,7 +11,7 @@ use Rattle.std.proofs.lemmas.Cmp.{then_total, on_total, nat_cmp_total}
 use Rattle.std.proofs.lemmas.Map.{lookup-none}
 use Rattle.std.proofs.lemmas.Map.Entries.{none_below_head}
 use Rattle.std.proofs.lemmas.Map.Keys.{sorted_tail}
-use Rattle.pim_rows.specs.Standing.{Key}
+use Rattle.pim_world.specs.Standing.{Key}
 use Rattle.pim_rows.specs.KeyOrder.{key_cmp}
 use Rattle.pim_rows.specs.Tables.{Table, same_key, precedes, change}
 

@@ -3,7 +3,8 @@ use Rattle.std.proofs.Common.{◌≡◌, ◌∙◌, ℕ, ◌+◌, ◌-◌, ◌�
 use Rattle.std.proofs.Common.{◌∷◌}
 use Rattle.std.proofs.lemmas.Bool.{cond-true, cond-false}
 use Rattle.pim_rows.specs.Moments.{Moment, now, clock, stretch}
-use Rattle.pim_rows.specs.Standing.{Standing, standing, waits}
+use Rattle.pim_world.specs.declared.standing.Standing.{Standing}
+use Rattle.pim_world.specs.Standing.{standing, waits}
 use Rattle.pim_rows.specs.Tallies.{Tally, IsWithin, tally, no_tally, with_time}
 use Rattle.pim_rows.specs.OpenWaits.{IsUntil, Follows, ShowsWait}
 use Rattle.pim_rows.specs.declared.open_wait.OpenWait.{OpenWait}

@@ -1,7 +1,7 @@
 -- What is kept of what held before a line.
 use Rattle.std.specs.Prelude.{◌≡◌, ℕ, Option, Some}
 use Rattle.pim_world.specs.Worlds.{World}
-use Rattle.pim_rows.specs.Standing.{waits, is_off}
+use Rattle.pim_world.specs.Standing.{waits, is_off}
 use Rattle.pim_rows.specs.Episodes.{is_blocked, is_owned}
 use Rattle.pim_rows.specs.declared.before.Before.{Before}
 

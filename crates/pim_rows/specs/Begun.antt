@@ -6,7 +6,7 @@ use Rattle.pim_base.specs.declared.steps.Wait.{Wait}
 use Rattle.pim_waits.specs.Waiting.{gets}
 use Rattle.pim_world.specs.Worlds.{World, blocked_at}
 use Rattle.pim_rows.specs.Moments.{Moment, now, number}
-use Rattle.pim_rows.specs.Standing.{thread_number, mutex_number}
+use Rattle.pim_world.specs.Standing.{thread_number, mutex_number}
 use Rattle.pim_rows.specs.Episodes.{grant_line, off_time}
 
 -- a wait for a mutex: its line, thread and mutex, the clock, what the thread had and got, and of

@@ -8,7 +8,7 @@ use Rattle.pim_fact_lines.specs.declared.line.Line.{Line}
 use Rattle.pim_world.specs.Worlds.{World}
 use Rattle.pim_world.specs.Texts.{Says}
 use Rattle.pim_rows.specs.Moments.{now}
-use Rattle.pim_rows.specs.Standing.{thread_number}
+use Rattle.pim_world.specs.Standing.{thread_number}
 use Rattle.pim_rows.specs.Rows.{before, is_first_of_cycle, moments_of}
 
 -- each thread waits for a mutex that the next one owns, and the last one for a mutex of the thread

@@ -4,7 +4,7 @@ use Rattle.std.specs.Prelude.{Some, None, if◌then◌else◌}
 use Rattle.pim_fact_lines.specs.declared.line.Line.{Line}
 use Rattle.pim_world.specs.After.{after}
 use Rattle.pim_rows.specs.Moments.{Moment, now, followed_by}
-use Rattle.pim_rows.specs.Standing.{waits}
+use Rattle.pim_world.specs.Standing.{waits}
 use Rattle.pim_rows.specs.Tallies.{Tally, tally}
 use Rattle.pim_rows.specs.Found.{of_fact}
 use Rattle.pim_rows.specs.Rows.{granted, resumed, text_of, wait_with}

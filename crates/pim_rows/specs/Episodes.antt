@@ -7,7 +7,7 @@ use Rattle.pim_base.specs.State.{owner_of}
 use Rattle.pim_waits.specs.Waiting.{gets}
 use Rattle.pim_world.specs.Worlds.{World, blocked_at}
 use Rattle.pim_rows.specs.Moments.{Moment, now, number, stretch, began}
-use Rattle.pim_rows.specs.Standing.{is_off, runs_of}
+use Rattle.pim_world.specs.Standing.{is_off, runs_of}
 
 -- m is owned
 abbrev pub is_owned : ℕ → World → Bool

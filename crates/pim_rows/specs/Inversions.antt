@@ -8,7 +8,7 @@ use Rattle.pim_waits.specs.Laws.{IsRunner, IsToBlame, WayPassesOn, IsIdleOwner}
 use Rattle.pim_world.specs.Worlds.{World, blocked_at}
 use Rattle.pim_world.specs.Texts.{Says}
 use Rattle.pim_rows.specs.Moments.{now}
-use Rattle.pim_rows.specs.Standing.{inverted_by, meanwhile_of}
+use Rattle.pim_world.specs.Standing.{inverted_by, meanwhile_of}
 use Rattle.pim_rows.specs.Rows.{moments_of}
 use Rattle.pim_rows.specs.Laws.{is_inverted}
 

@@ -5,7 +5,7 @@ use Rattle.pim_fact_lines.specs.declared.line.Line.{Line}
 use Rattle.pim_waits.specs.Waiting.{runner}
 use Rattle.pim_world.specs.Worlds.{World, blocked_at}
 use Rattle.pim_rows.specs.Moments.{Moment, clock, began, time}
-use Rattle.pim_rows.specs.Standing.{waits, is_lower, inverted_by, meanwhile_of}
+use Rattle.pim_world.specs.Standing.{waits, is_lower, inverted_by, meanwhile_of}
 use Rattle.pim_rows.specs.Tables.{total}
 use Rattle.pim_rows.specs.Tallies.{Tally, tally}
 use Rattle.pim_rows.specs.Rows.{moments_of}

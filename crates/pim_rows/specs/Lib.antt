@@ -1,6 +1,5 @@
 pub mod Words
 pub mod Moments
-pub mod Standing
 pub mod Tables
 pub mod KeyOrder
 pub mod Tallies

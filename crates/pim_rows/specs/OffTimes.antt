@@ -4,7 +4,7 @@ use Rattle.std.specs.Prelude.{None, unwrap_or, if◌then◌else◌}
 use Rattle.pim_fact_lines.specs.declared.line.Line.{Line}
 use Rattle.pim_fact_lines.specs.declared.line.Line.TheVariants as lines
 use Rattle.pim_rows.specs.Moments.{Moment, now, clock}
-use Rattle.pim_rows.specs.Standing.{is_off}
+use Rattle.pim_world.specs.Standing.{is_off}
 use Rattle.pim_rows.specs.Episodes.{off_time}
 use Rattle.pim_rows.specs.declared.off_time.OffTime.{OffTime}
 

@@ -1,7 +1,8 @@
 -- What is kept of a wait that lasts.
 use Rattle.std.specs.Prelude.{◌≡◌, ℕ, ◌-◌, ◌≤◌, true, false, List, ◌∷◌}
 use Rattle.pim_rows.specs.Moments.{Moment, now, clock as clock_of}
-use Rattle.pim_rows.specs.Standing.{Standing, standing, waits}
+use Rattle.pim_world.specs.declared.standing.Standing.{Standing}
+use Rattle.pim_world.specs.Standing.{standing, waits}
 use Rattle.pim_rows.specs.Tallies.{Tally, IsWithin, tally, with_time}
 use Rattle.pim_rows.specs.declared.open_wait.OpenWait.{OpenWait}
 

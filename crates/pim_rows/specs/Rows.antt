@@ -14,7 +14,7 @@ use Rattle.pim_fact_lines.specs.declared.line.What.TheVariants as whats
 use Rattle.pim_waits.specs.Waiting.{way}
 use Rattle.pim_world.specs.Worlds.{World}
 use Rattle.pim_rows.specs.Moments.{Moment, first_moments, followed_by, now, number, clock, began}
-use Rattle.pim_rows.specs.Standing.{Key, thread_number, waits}
+use Rattle.pim_world.specs.Standing.{Key, thread_number, waits}
 use Rattle.pim_rows.specs.Tallies.{Tally, tally, total}
 use Rattle.pim_rows.specs.Episodes.{is_blocked, run_apart, is_run_apart}
 use Rattle.pim_rows.specs.Begun.{WaitStart, wait_start, Block, block, RunStart, run_start}

@@ -3,13 +3,11 @@ use Rattle.std.specs.Prelude.{ℕ, ◌+◌, ◌==◌, Bool, ◌&&◌, ◌||◌, 
 use Rattle.std.specs.Prelude.{unwrap_or, map, sum, slice_get, nat_lt, if◌then◌else◌}
 use Rattle.std.specs.List.{position_or_len}
 use Rattle.std.specs.Option.{option_and_then}
-use Rattle.pim_rows.specs.Standing.{Key}
+use Rattle.pim_world.specs.Standing.{Key}
+pub use Rattle.pim_world.specs.Standing.{same_key}
 
 abbrev pub Table : Type 0 → Type 0
 Table V = List (Key × V)
-
-abbrev pub same_key : Key → Key → Bool
-same_key j k = (j.0 == k.0) && (j.1 == k.1) && (j.2 == k.2)
 
 -- the first number in which they differ is the smaller
 abbrev pub precedes : Key → Key → Bool

@@ -2,7 +2,8 @@
 -- 'meanwhile'.
 use Rattle.std.specs.Prelude.{ℕ, ◌+◌, ◌≤◌, List, [], ◌∷◌, if◌then◌else◌}
 use Rattle.pim_rows.specs.Moments.{Moment, now, stretch}
-use Rattle.pim_rows.specs.Standing.{Standing, standing, waits}
+use Rattle.pim_world.specs.declared.standing.Standing.{Standing}
+use Rattle.pim_world.specs.Standing.{standing, waits}
 use Rattle.pim_rows.specs.Tables.{add}
 pub use Rattle.pim_rows.specs.Tables.{total}
 pub use Rattle.pim_rows.specs.declared.tally.Tally.{Tally}

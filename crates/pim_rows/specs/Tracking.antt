@@ -3,7 +3,7 @@ use Rattle.std.specs.Prelude.{◌≡◌, List, []}
 use Rattle.pim_world.specs.Held.{world_of}
 use Rattle.pim_rows.specs.declared.tracker.Tracker.{Tracker}
 use Rattle.pim_rows.specs.Moments.{Moment, now, number}
-use Rattle.pim_rows.specs.Standing.{waits}
+use Rattle.pim_world.specs.Standing.{waits}
 use Rattle.pim_rows.specs.Episodes.{is_blocked, is_owned}
 use Rattle.pim_rows.specs.Begun.{wait_start, block, grant}
 use Rattle.pim_rows.specs.Found.{sections, nests}

@@ -2,7 +2,7 @@
 
 ghost use Rattle.std.specs.Prelude.{◌≡◌, ℕ, Some};
 ghost use Rattle.pim_world.specs.Held.{world_of};
-ghost use Rattle.pim_rows.specs.Standing.{waits, is_off};
+ghost use Rattle.pim_world.specs.Standing.{waits, is_off};
 ghost use Rattle.pim_rows.specs.Episodes.{is_blocked, is_owned};
 ghost use Rattle.pim_rows.specs.Before.{IsBefore};
 

@@ -10,7 +10,7 @@ ghost use Rattle.pim_base.specs.Lists.{contains};
 ghost use Rattle.pim_waits.specs.Waiting.{way};
 ghost use Rattle.pim_rows.specs.Words.{row, row_text};
 ghost use Rattle.pim_rows.specs.declared.row.Word.TheVariants as words;
-ghost use Rattle.pim_rows.specs.Standing.{thread_number};
+ghost use Rattle.pim_world.specs.Standing.{thread_number};
 ghost use Rattle.pim_world.specs.Held.{world_of};
 
 use crate::row::Word;

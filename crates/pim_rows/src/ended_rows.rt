@@ -6,7 +6,7 @@ ghost use Rattle.pim_world.specs.After.{after};
 ghost use Rattle.pim_world.specs.Following.{may_follow, may_happen};
 ghost use Rattle.pim_world.specs.Held.{world_of};
 ghost use Rattle.pim_rows.specs.Moments.{Moment, now, number as number_of, followed_by};
-ghost use Rattle.pim_rows.specs.Standing.{waits};
+ghost use Rattle.pim_world.specs.Standing.{waits};
 ghost use Rattle.pim_rows.specs.Episodes.{is_blocked};
 ghost use Rattle.pim_rows.specs.Begun.{wait_start, block};
 ghost use Rattle.pim_rows.specs.Found.{actor};

@@ -6,7 +6,7 @@ ghost use Rattle.pim_world.specs.Touching.{declares};
 ghost use Rattle.pim_world.specs.After.{after};
 ghost use Rattle.pim_world.specs.Held.{world_of, touched_of};
 ghost use Rattle.pim_rows.specs.Moments.{Moment, now, followed_by};
-ghost use Rattle.pim_rows.specs.Standing.{is_off};
+ghost use Rattle.pim_world.specs.Standing.{is_off};
 ghost use Rattle.pim_rows.specs.Found.{actor};
 ghost use Rattle.pim_rows.specs.Kept.{kept_of};
 ghost use Rattle.pim_rows.specs.OffTimes.{AreOffTimes, lost_time};

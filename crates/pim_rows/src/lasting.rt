@@ -4,7 +4,7 @@ ghost use Rattle.std.specs.Prelude.{◌≡◌, ◌≤◌, ◌++◌, ℕ, List, S
 ghost use Rattle.pim_base.specs.Lists.{nth};
 ghost use Rattle.pim_world.specs.Held.{world_of};
 ghost use Rattle.pim_rows.specs.Moments.{Moment, now};
-ghost use Rattle.pim_rows.specs.Standing.{waits};
+ghost use Rattle.pim_world.specs.Standing.{waits};
 ghost use Rattle.pim_rows.specs.Episodes.{is_blocked};
 ghost use Rattle.pim_rows.specs.Begun.{wait_start, block};
 ghost use Rattle.pim_rows.specs.Kept.{kept_of};

@@ -2,7 +2,7 @@
 
 ghost use Rattle.std.specs.Prelude.{◌≡◌, None};
 ghost use Rattle.pim_rows.specs.Found.{actor, mutex_of, locked_mutex, asked_mutex, of_fact};
-ghost use Rattle.pim_rows.specs.Standing.{waits};
+ghost use Rattle.pim_world.specs.Standing.{waits};
 ghost use Rattle.pim_world.specs.Held.{world_of};
 
 use pim_fact_lines::{Line, What};

@@ -3,7 +3,8 @@
 ghost use Rattle.std.specs.Prelude.{◌≡◌, is_some, IfOk};
 ghost use Rattle.pim_rows.specs.OpenWaits.{IsUntil, Begins, Renews, EndsWith, HasTimes};
 
-use crate::tally::{Standing, Tally};
+use crate::tally::Tally;
+use pim_world::Standing;
 use std::alloc::{AllocError, Global};
 
 /// A wait that lasts, with what holds of the thread and for how long what held.

@@ -8,7 +8,7 @@ ghost use Rattle.pim_world.specs.After.{after};
 ghost use Rattle.pim_world.specs.Held.{world_of};
 ghost use Rattle.pim_rows.specs.declared.open_wait.OpenWait.{OpenWait};
 ghost use Rattle.pim_rows.specs.Moments.{Moment, now, first_moments, followed_by};
-ghost use Rattle.pim_rows.specs.Standing.{waits};
+ghost use Rattle.pim_world.specs.Standing.{waits};
 ghost use Rattle.pim_rows.specs.Found.{actor};
 ghost use Rattle.pim_rows.specs.OpenWaits.{IsUntil};
 ghost use Rattle.pim_rows.specs.AllOpen.{AreOpen, AreUntil, AreSame, AreCurrent, AreInverted};
@@ -16,9 +16,9 @@ ghost use Rattle.pim_rows.specs.AllOpen.{IsCalm, GoneOnAt, EndedAt, BegunAt, Sam
 ghost use Rattle.pim_rows.specs.AllOpen.{ended_times};
 
 use crate::open_wait::OpenWait;
-use crate::tally::{Standing, Tally};
+use crate::tally::Tally;
 use pim_waits::ThreadPlace;
-use pim_world::World;
+use pim_world::{Standing, World};
 use std::alloc::{AllocError, Global};
 
 /// By the place of a thread, its wait that lasts.

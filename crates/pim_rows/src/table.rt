@@ -5,11 +5,9 @@ ghost use Rattle.std.specs.List.{position, insert};
 ghost use Rattle.pim_rows.specs.Tables.{same_key, precedes, reaches, place, value_at, change, add};
 ghost use Rattle.pim_rows.specs.Tables.{total};
 
+use pim_world::Key;
 use std::alloc::{AllocError, Global};
 use std::marker::Model;
-
-/// Three numbers by which times are summed. Where only two are needed, the third one is 0.
-pub type Key = (u64, u64, u64);
 
 /// Times by key, in ascending order of the keys. Each time is above 0.
 ///

@@ -1,32 +1,11 @@
-//! What holds of a waiting thread, and for how long it held.
+//! For how long what held of a waiting thread.
 
-ghost use Rattle.std.specs.Prelude.{◌≡◌, ◌-◌, ◌↔◌, IsTrue, IfOk};
+ghost use Rattle.std.specs.Prelude.{◌≡◌, ◌-◌, IfOk};
 ghost use Rattle.pim_rows.specs.Tallies.{no_tally, with_time, IsWithin};
 
-use crate::table::{Key, Times};
+use crate::table::Times;
+use pim_world::Standing;
 use std::alloc::{AllocError, Global};
-
-/// What holds of a waiting thread.
-#[derive(Clone, Copy, PartialEq)]
-pub struct Standing {
-    /// It has a runner that could run, and whose level is below what the thread gets.
-    pub lower: bool,
-    /// The thread is inverted: by the blamed mutex, the runner, and what that gets.
-    pub inverted: Option<Key>,
-    /// Its runner is blocked: by the object and the runner.
-    pub stalled: Option<Key>,
-    /// Another thread runs in place of the runner: by that thread and its level.
-    pub meanwhile: Option<Key>,
-}
-
-impl Standing {
-    /// Returns whether the same holds.
-    pub fn is(&self, other: &Standing) -> bool
-        ensures { IsTrue result ↔ (self.now ≡ other.now) }
-    {
-        self == other
-    }
-}
 
 /// For how long what held of a waiting thread.
 #[derive(Drop)]

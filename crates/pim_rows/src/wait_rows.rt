@@ -3,14 +3,14 @@
 ghost use Rattle.std.specs.Prelude.{◌≡◌, ◌∷◌, ◌++◌, [], ℕ, List, map, IfOk};
 ghost use Rattle.pim_rows.specs.Moments.{Moment, clock as clock_of};
 ghost use Rattle.pim_rows.specs.Rows.{wait_row, wait_rows, inverted_row, text_of};
-ghost use Rattle.pim_rows.specs.Standing.{Key as SpecKey};
+ghost use Rattle.pim_world.specs.Standing.{Key as SpecKey};
 ghost use Rattle.pim_rows.specs.Words.{row};
 
 use crate::row::Word;
 use crate::rows_text::put_row;
-use crate::table::Key;
 use crate::tally::Tally;
 use crate::wait_start::WaitStart;
+use pim_world::Key;
 use std::alloc::AllocError;
 
 /// Appends the rows of a wait that began so and has these times. Takes the clock, and the number of

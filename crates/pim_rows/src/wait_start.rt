@@ -3,7 +3,7 @@
 ghost use Rattle.std.specs.Prelude.{◌≡◌, ℕ};
 ghost use Rattle.std.specs.Option.{option_map_or};
 ghost use Rattle.pim_base.specs.State.{owner_of, base_of};
-ghost use Rattle.pim_rows.specs.Standing.{thread_number};
+ghost use Rattle.pim_world.specs.Standing.{thread_number};
 ghost use Rattle.pim_waits.specs.Waiting.{gets};
 ghost use Rattle.pim_world.specs.Held.{world_of};
 ghost use Rattle.pim_rows.specs.Begun.{awaited, wait_at};

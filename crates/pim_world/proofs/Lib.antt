@@ -5,3 +5,4 @@ pub mod States
 pub mod Cpus
 pub mod Steadiness
 pub mod Touching
+pub mod Same

@@ -5,5 +5,6 @@ pub mod After
 pub mod Held
 pub mod Texts
 pub mod Steady
+pub mod Standing
 pub mod Laws
 pub mod Touching

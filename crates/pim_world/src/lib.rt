@@ -3,7 +3,8 @@
 //! [`check_text`] checks that bytes are a text of facts: that exactly, by specs/Texts.antt, which
 //! is docs/FACTS.md in definitions. A [`FactsFault`] names the first invalid line, and why it is
 //! one. A [`World`] is what the lines so far say; `refusal` tests whether a line may follow them,
-//! and `go` goes on by it.
+//! and `go` goes on by it. A [`Standing`] is what holds of a thread that waits: whether it is
+//! inverted, and by which threads.
 //!
 //! ```text
 //! // Ok(())
@@ -21,6 +22,7 @@ mod laws;
 mod refusal;
 mod refusing;
 mod showing;
+mod standing;
 mod text;
 mod world;
 
@@ -28,5 +30,6 @@ pub use fault::{FactsFault, Why};
 pub use kernel::{KernelEvents, Off};
 pub use laws::{first_invalid_line_law, steady_law};
 pub use refusal::Refusal;
+pub use standing::{Key, Standing};
 pub use text::check_text;
 pub use world::World;

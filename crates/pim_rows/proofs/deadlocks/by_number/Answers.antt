@@ -2,7 +2,7 @@ use Rattle.std.proofs.Common.{◌≡◌, ◌∙◌, ap, arith, length}
 use Rattle.std.specs.Map.{values_of}
 use Rattle.pim_base.specs.State.{State}
 use Rattle.pim_base.specs.Lists.{numbers, sort_by}
-use Rattle.pim_rows.specs.Standing.{thread_number}
+use Rattle.pim_world.specs.Standing.{thread_number}
 use Rattle.pim_world.specs.Held.{world_of}
 use Rattle.pim_rows.proofs.ByNumber.{insert_entry-next, values_of-keyed, is_lower}
 use Rattle.pim_rows.proofs.deadlocks.by_number.Goals as goal

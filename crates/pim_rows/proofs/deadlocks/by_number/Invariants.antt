@@ -1,6 +1,6 @@
 use Rattle.std.proofs.Common.{◌≡◌, map}
 use Rattle.pim_base.specs.Lists.{numbers, sort_by}
-use Rattle.pim_rows.specs.Standing.{thread_number}
+use Rattle.pim_world.specs.Standing.{thread_number}
 use Rattle.pim_rows.proofs.ByNumber.{keyed, is_lower}
 use Rattle.pim_world.specs.Held.{world_of}
 use Rattle.pim_rows.proofs.deadlocks.by_number.Given as goal

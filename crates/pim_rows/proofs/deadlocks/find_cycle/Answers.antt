@@ -1,5 +1,5 @@
 use Rattle.std.proofs.Common.{◌∙◌, sym, ap, ◌++◌, ◌∷◌, []}
-use Rattle.pim_rows.specs.Standing.{thread_number}
+use Rattle.pim_world.specs.Standing.{thread_number}
 use Rattle.pim_rows.proofs.Cycles.{walk_start, walk_more, walk_none, walk_end, walk_found}
 use Rattle.pim_world.specs.Held.{world_of}
 use Rattle.pim_rows.proofs.deadlocks.find_cycle.Goals as goal

@@ -1,5 +1,5 @@
 use Rattle.pim_base.specs.Chains.{blocker}
-use Rattle.pim_rows.specs.Standing.{thread_number}
+use Rattle.pim_world.specs.Standing.{thread_number}
 use Rattle.pim_rows.proofs.Cycles.{Walks}
 use Rattle.pim_world.specs.Held.{world_of}
 use Rattle.pim_rows.proofs.deadlocks.find_cycle.Given as goal

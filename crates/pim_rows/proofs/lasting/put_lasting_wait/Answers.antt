@@ -5,7 +5,7 @@ use Rattle.pim_base.specs.State.{State, wait_of}
 use Rattle.pim_world.specs.Worlds.{World}
 use Rattle.pim_rows.specs.Moments.{now}
 use Rattle.pim_rows.specs.Kept.{kept_of}
-use Rattle.pim_rows.specs.Standing.{waits}
+use Rattle.pim_world.specs.Standing.{waits}
 use Rattle.pim_world.proofs.Fronts.{is_some-option_map}
 use Rattle.pim_rows.proofs.StillKept.{kept_here, left_after, puts_lasting}
 use Rattle.pim_rows.proofs.lasting.put_lasting_wait.Goals as goal

@@ -3,7 +3,7 @@ use Rattle.std.specs.Prelude.{flat_map}
 use Rattle.pim_base.specs.Lists.{nth}
 use Rattle.pim_world.specs.Held.{world_of}
 use Rattle.pim_rows.specs.Moments.{Moment, now}
-use Rattle.pim_rows.specs.Standing.{waits}
+use Rattle.pim_world.specs.Standing.{waits}
 use Rattle.pim_rows.specs.Begun.{wait_start}
 use Rattle.pim_rows.specs.Kept.{kept_of}
 use Rattle.pim_rows.specs.Starts.{AreStarts}

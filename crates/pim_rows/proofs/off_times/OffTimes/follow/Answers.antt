@@ -2,7 +2,7 @@ use Rattle.std.proofs.Common.{◌≡◌, sym, ◌∙◌, ap, arith, is_some, Som
 use Rattle.pim_world.specs.Worlds.{World, Kernel}
 use Rattle.pim_world.specs.After.{after, set}
 use Rattle.pim_rows.specs.Moments.{now}
-use Rattle.pim_rows.specs.Standing.{is_off, off_of}
+use Rattle.pim_world.specs.Standing.{is_off, off_of}
 use Rattle.pim_rows.specs.Kept.{kept_of}
 use Rattle.pim_rows.specs.OffTimes.{off_kept, off_from, off_ended}
 use Rattle.pim_rows.specs.declared.off_time.OffTime.{OffTime}

@@ -4,7 +4,7 @@ use Rattle.pim_world.specs.Worlds.{World, Kernel}
 use Rattle.pim_world.specs.After.{set}
 use Rattle.pim_world.specs.Held.{world_of}
 use Rattle.pim_rows.specs.Moments.{now, clock}
-use Rattle.pim_rows.specs.Standing.{is_off, off_of}
+use Rattle.pim_world.specs.Standing.{is_off, off_of}
 use Rattle.pim_rows.specs.Kept.{kept_of}
 use Rattle.pim_rows.specs.OffTimes.{off_kept, off_ended}
 use Rattle.pim_rows.specs.declared.off_time.OffTime.{OffTime}

@@ -1,5 +1,5 @@
 use Rattle.std.proofs.Common.{refl, []}
-use Rattle.pim_rows.specs.Standing.{waits}
+use Rattle.pim_world.specs.Standing.{waits}
 use Rattle.pim_rows.specs.Episodes.{is_blocked, is_owned}
 use Rattle.pim_rows.specs.Begun.{wait_start, block, grant}
 use Rattle.pim_rows.specs.Kept.{kept_of}

@@ -5,8 +5,7 @@ use Rattle.std.proofs.lemmas.Bool.Decides.{Decides-eqb, Decides-and, Decides-lik
 use Rattle.std.specs.Bool.{Decides}
 use Rattle.std.specs.Cmp.{booleans_Decides}
 use Rattle.std.specs.Option.{option_eq}
-use Rattle.pim_rows.specs.Standing.{Key, Standing}
-use Rattle.pim_rows.specs.Tables.{same_key}
+use Rattle.pim_world.specs.Standing.{Key, Standing, same_key}
 
 pub Decides-same_key : (j k : Key) → Decides (same_key j k) (j ≡ k)
 Decides-same_key j k =

@@ -1,20 +1,35 @@
 //! What holds of a waiting thread.
 
-ghost use Rattle.std.specs.Prelude.{◌≡◌, unwrap_or};
+ghost use Rattle.std.specs.Prelude.{◌≡◌, ◌↔◌, IsTrue, unwrap_or};
 ghost use Rattle.pim_world.specs.Held.{world_of, kernel_of};
-ghost use Rattle.pim_rows.specs.Standing.{run_level, is_ready_off, in_place_of, could_run};
-ghost use Rattle.pim_rows.specs.Standing.{inverted_by, is_lower, meanwhile_of};
+ghost use Rattle.pim_world.specs.Standing.{run_level, is_ready_off, in_place_of, could_run};
+ghost use Rattle.pim_world.specs.Standing.{inverted_by, is_lower, meanwhile_of};
 ghost use Rattle.pim_waits.specs.Waiting.{blame};
-ghost use Rattle.pim_rows.specs.Standing.{mutex_number, standing};
+ghost use Rattle.pim_world.specs.Standing.{mutex_number, standing};
 
-use crate::table::Key;
-use crate::tally::Standing;
+use crate::kernel::{KernelEvents, Off};
+use crate::world::World;
 use pim_waits::{MutexPlace, ThreadPlace};
-use pim_world::{KernelEvents, Off, World};
+
+/// Three numbers by which times are summed. Where only two are needed, the third one is 0.
+pub type Key = (u64, u64, u64);
+
+/// What holds of a waiting thread.
+#[derive(Clone, Copy, PartialEq)]
+pub struct Standing {
+    /// It has a runner that could run, and whose level is below what the thread gets.
+    pub lower: bool,
+    /// The thread is inverted: by the blamed mutex, the runner, and what that gets.
+    pub inverted: Option<Key>,
+    /// Its runner is blocked: by the object and the runner.
+    pub stalled: Option<Key>,
+    /// Another thread runs in place of the runner: by that thread and its level.
+    pub meanwhile: Option<Key>,
+}
 
 impl Standing {
     /// Returns what holds of a thread.
-    pub(crate) fn of(world: &World, thread: ThreadPlace) -> Standing
+    pub fn of(world: &World, thread: ThreadPlace) -> Standing
         ensures { result ≡ standing (world_of world.now) thread }
     {
         let lower = is_lower(world, thread);
@@ -27,6 +42,13 @@ impl Standing {
             stalled,
             meanwhile,
         }
+    }
+
+    /// Returns whether the same holds.
+    pub fn is(&self, other: &Standing) -> bool
+        ensures { IsTrue result ↔ (self.now ≡ other.now) }
+    {
+        self == other
     }
 }
 

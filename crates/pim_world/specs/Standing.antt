@@ -8,7 +8,7 @@ use Rattle.pim_waits.specs.Waiting.{gets, runner, blame}
 use Rattle.pim_world.specs.Worlds.{World, Kernel, blocked_at, last_cpu}
 use Rattle.pim_world.specs.declared.kernel.Off.{Off}
 use Rattle.pim_world.specs.declared.kernel.Off.TheVariants as offs
-pub use Rattle.pim_rows.specs.declared.tally.Standing.{Standing}
+pub use Rattle.pim_world.specs.declared.standing.Standing.{Standing}
 
 -- the number of the thread, of the mutex at this place
 abbrev pub thread_number : World → ℕ → ℕ
@@ -81,6 +81,9 @@ meanwhile_of w t r =
 -- three numbers by which times are summed; of those with two the third is 0
 abbrev pub Key : Type 0
 Key = ℕ × ℕ × ℕ
+
+abbrev pub same_key : Key → Key → Bool
+same_key j k = (j.0 == k.0) && (j.1 == k.1) && (j.2 == k.2)
 
 -- by blamed mutex, runner, and what that gets
 abbrev pub inverted_key : World → ℕ → ℕ → Key
