@@ -310,7 +310,7 @@ class Program:
 
     def load(self, thread, _mutex):
         """A file is loaded near the mutexes. Its name is empty."""
-        self.put(thread, reader.MODULE, self.choose.choice((0x4f00, 0x5010)))
+        self.put(thread, reader.MODULE, self.choose.choice((0x4f00, 0x5010)), detail=self.choose.choice((0, 1)))
         yield
 
     def fork(self, thread, _mutex):

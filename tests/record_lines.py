@@ -21,6 +21,7 @@ LINES = {  # thread, event, object, value, detail, how: what the line says behin
     "an exec that failed": ((1, 9, 0, 0, 0, 2), "exec-failed error=2"),
     "an end without a status": ((1, 10, 0, 0, 0, 0), "end"),
     "a module": ((1, 11, 0x7F00, 0, 0, 0), 'module address=0x7f00 text=""'),
+    "a module with its end": ((1, 11, 0x7F00, 0, 3, 1), 'module address=0x7f00 bytes=0x10003000 text=""'),
     "a name": ((1, 2, 0x77, 0, 0, 0), 'name self=0x77 text=""'),
     "a destroyed mutex": ((1, 17, 0x5000, 0, 0, 0), "destroy mutex=0x5000"),
     "one that wasn't": ((1, 18, 0x5000, 0, 0, 16), "destroy-failed mutex=0x5000 error=16"),

@@ -109,6 +109,8 @@ def row_of(words):
             how = int(next(rest))
         elif word == "at":
             target |= int(next(rest)) << 48
+        elif word == "pages":
+            how, detail = divmod(int(next(rest)), 1 << 16)
         elif word == "text":
             text = next(rest).encode()
             value = len(text)

@@ -11,6 +11,7 @@ enum {
     LEVEL_OTHER = 0, /* of the policies below SCHED_FIFO */
     LEVEL_MOST = 100,
     NAME_BYTES = 64,
+    MODULE_BYTES = 1 << 24,
     MOST_THREADS = 65536, /* of a text of facts, of which one is the owner that isn't known */
 };
 
@@ -40,7 +41,7 @@ struct mutex {
 
 /* A file that is loaded in a process. */
 struct module {
-    uint64_t begin;
+    uint64_t begin, length; /* the length is MODULE_BYTES where the log doesn't say it */
     uint32_t process, name;
 };
 

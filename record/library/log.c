@@ -351,13 +351,12 @@ static void write_part(const char *text, size_t length) {
     log_number((struct record *)record);
 }
 
-void log_put_text(enum event event, uint64_t object, const char *text, size_t most) {
+void log_put_text(struct record first, const char *text, size_t most) {
     size_t length = strnlen(text, most < LONGEST_TEXT ? most : LONGEST_TEXT);
     if (!log_begin()) return;
-    log_write((struct record){ .event = (uint8_t)event,
-                               .object = object,
-                               .value = (uint32_t)length,
-                               .time = clock_time() });
+    first.value = (uint32_t)length;
+    first.time = clock_time();
+    log_write(first);
     for (size_t at = 0; at < length; at += TEXT_BYTES)
         write_part(text + at, length - at < TEXT_BYTES ? length - at : TEXT_BYTES);
     log_end();

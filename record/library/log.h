@@ -26,6 +26,7 @@ enum {
     CHUNK_RECORDS = 512,
     TEXT_BYTES = 22,
     LONGEST_TEXT = 4095,
+    MODULE_PAGE = 4096, /* whatever the machine's page is */
 };
 
 enum event {
@@ -224,8 +225,8 @@ void log_catch_up(void);
 /* Counts the calls that aren't put. */
 void log_count_left_out(void);
 
-/* Puts a record with a text behind it, of which at most `most` bytes are taken. */
-void log_put_text(enum event event, uint64_t object, const char *text, size_t most);
+/* Puts a record of now with a text behind it, of which at most `most` bytes are taken. */
+void log_put_text(struct record first, const char *text, size_t most);
 
 static inline uint32_t log_saturated(uint64_t nanoseconds) {
     return nanoseconds > UINT32_MAX ? UINT32_MAX : (uint32_t)nanoseconds;
