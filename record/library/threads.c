@@ -59,12 +59,13 @@ void thread_introduce(void) {
  * thread's chunk is the collector's then, so that short threads take no more than they wrote. */
 static void ends(void *unused) {
     (void)unused;
+    if (!log_header) return; /* a forked process that isn't recorded */
     if (++log_cursor.exits < PTHREAD_DESTRUCTOR_ITERATIONS) {
         pthread_setspecific(exit_key, &log_cursor);
         return;
     }
     log_put((struct record){ .event = EVENT_EXIT });
-    log_close_chunk();
+    log_leave_chunk();
 }
 
 void thread_make_key(void) {

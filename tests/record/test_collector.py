@@ -63,8 +63,8 @@ def number_in(path, at):
         return int.from_bytes(file.read(256)[at:at + 8], "little")
 
 
-def next_number(path):
-    return number_in(path, 128)
+def records_in(path):
+    return number_in(path, 80)
 
 
 def memory_of(process):
@@ -120,7 +120,7 @@ def rounds(reader, broken, folder):
     for number in range(times):
         faults.append(running.says("go"))
         wanted = 2 * pairs * (number + 1)
-        until(lambda: next_number(running.path) > wanted)
+        until(lambda: records_in(running.path) > wanted)
         if number == 0:
             program, = [it for it in children_of(running.child.pid) if proc_text(it, "comm") == "rounds\n"]
     held, locked = memory_of(program), locked_by(running.helper("pim-collector"))
@@ -134,7 +134,7 @@ def rounds(reader, broken, folder):
     check("its status, and that nothing is said", difference((status, said), (0, "")))
     log = read(reader, running.path)
     check("a log whose slots were used again is whole", broken(log))
-    got = counted(reader, log, reader.GRANTED), log.head.lost, log.raw[-1].number
+    got = counted(reader, log, reader.GRANTED), log.head.lost, log.head.records
     check("it has each call", difference(got, (1 + pairs * times, 0, len(log.raw))))
 
 
@@ -163,18 +163,63 @@ def held_up(reader, broken, folder):
 
 
 def short_threads(reader, broken, folder):
-    """A short thread takes a block of the disk, and no room of more."""
-    running = Running(folder, PROGRAMS / "rounds", "threads", "100", options=["--size", "4"])
+    """Threads that begin after others have ended use their chunks."""
+    running = Running(folder, PROGRAMS / "rounds", "threads", "1000", options=["--size", "4"])
+    running.says("go")
+    status = running.end()[0]
+    log, taken = read(reader, running.path), number_in(running.path, 192)
+    check("1,000 short threads have their records", broken(log) or difference(
+        (status, counted(reader, log, reader.THREAD), counted(reader, log, reader.EXIT), log.head.lost), (0, 1001, 1000, 0)))
+    shared = len(log.chunks) - taken
+    check("they take chunks for their records, and not one each", None if taken < 60 and shared > 940 else f"{taken} chunks")
+    told = subprocess.run([RECORD / "out/pim-facts", running.path], capture_output=True, text=True, check=False)
+    names = [line for line in told.stdout.splitlines() if re.fullmatch(r"thread \d+ 0 rounds", line)]
+    check("pim-facts finds each of them", difference((told.returncode, len(names)), (0, 1001)))
+
+
+CLOCK = """#define _GNU_SOURCE
+#include <sys/syscall.h>
+#include <time.h>
+#include <unistd.h>
+int clock_gettime(clockid_t clock, struct timespec *now) {
+    int result = (int)syscall(SYS_clock_gettime, clock, now);
+    now->tv_nsec -= now->tv_nsec % 1000000;
+    return result;
+}
+"""
+
+
+def coarse_clock(reader, broken, folder):
+    """Where two threads may see the same time, the records are counted."""
+    source, library = pathlib.Path(folder, "clock.c"), pathlib.Path(folder, "clock.so")
+    source.write_text(CLOCK)
+    run("cc", "-shared", "-fPIC", source, "-o", library)
+    for options in ([], ["--last", "4M", "--contended"]):
+        own = pathlib.Path(folder, f"run{len(options)}")
+        own.mkdir()
+        random = (PROGRAMS / "random", "1", "300", "ordinary")
+        done = run(RECORD / "pim-record", "-o", own / "run", *options, *random, env={**os.environ, "LD_PRELOAD": str(library)})
+        log = read(reader, own / "run")
+        check(f"a coarse clock {' '.join(options)}", broken(log) or difference(
+            (done.returncode, log.head.has_times, counted(reader, log, reader.EXIT)), (0, False, 8)))
+    done = run(RECORD / "pim-record", "-o", f"{folder}/fine", *random)
+    log = read(reader, f"{folder}/fine")
+    check("with a fine clock the numbers are times", broken(log) or difference((done.returncode, log.head.has_times), (0, True)))
+
+
+def short_processes(reader, broken, folder):
+    """A short process takes a block of the disk, and no room of more."""
+    running = Running(folder, PROGRAMS / "rounds", "processes", "100", options=["--size", "4"])
     for number in range(6):
-        # What a chunk of an ended thread doesn't take is room once the collector has seen the end.
+        # What a chunk of an ended process doesn't take is room once the collector has seen the end.
         until(lambda: running.path.exists() and number_in(running.path, 32) - number_in(running.path, 192) >= 100)
         running.says("go")
-        until(lambda: number_in(running.path, 192) > 100 * (number + 1))  # a chunk of each thread
+        until(lambda: number_in(running.path, 192) > 100 * (number + 1))  # a chunk of each
     status = running.end()[0]
     log, data = read(reader, running.path), running.path.stat()
     taken = number_in(running.path, 192)
-    check("600 short threads in a log that has room for 251 chunks", broken(log) or difference(
-        (status, counted(reader, log, reader.EXIT), log.head.lost, taken >= 601), (0, 600, 0, True)))
+    check("600 short processes in a log that has room for 251 chunks", broken(log) or difference(
+        (status, counted(reader, log, reader.CHILD), log.head.lost, taken >= 601), (0, 600, 0, True)))
     wanted = HEADER_BYTES + taken * 4096 + MEGABYTE // 4
     check("each takes a block of the disk", None if data.st_blocks * 512 <= wanted else f"{data.st_blocks} blocks")
     check("the file is as long as the chunks that were taken",
@@ -519,7 +564,7 @@ def adopted(folder):
 
 def collector(attempt, reader, broken, folder):
     """Each part in a folder of its own."""
-    of_logs = (rounds, flood, held_up, short_threads, late, killed_recorder, removed_meanwhile, daemon, other_network,
+    of_logs = (rounds, flood, held_up, short_threads, short_processes, coarse_clock, late, killed_recorder, removed_meanwhile, daemon, other_network,
                other_root, allocating)
     others = (locked_memory, priorities, killed_collector, other_users, no_collector, no_file, left_sockets,
               not_executed, adopted)

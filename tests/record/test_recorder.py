@@ -364,10 +364,11 @@ def header(folder):
           None if before[0] < head.began < after[0] and before[1] < real < after[1] else f"{head.began}, {real}")
     first = recording.log.records[0]
     got = (head.process, head.known, head.lost, head.left_out, head.command, len(data), head.chunks,
-           head.next_thread, head.next_number - 1)
+           head.next_thread, head.records)
     command = [str(PROGRAMS / "pair"), "7", "2"]
-    wanted = (first.chunk.process, 7, 0, 0, command, HEADER_BYTES + 5 * 16384, ((256 << 20) - HEADER_BYTES) // 16384, 6,
-              recording.log.raw[-1].number)
+    length = HEADER_BYTES + head.next_chunk * 16384
+    wanted = (first.chunk.process, 7, 0, 0, command, length, ((256 << 20) - HEADER_BYTES) // 16384, 6,
+              len(recording.log.raw))
     check("the header", difference(got, wanted))
     shell = Recording(folder, "sh", "-c", "echo $$ $PPID")
     numbers = f"{shell.log.head.process} {shell.log.head.parent}\n"
@@ -482,23 +483,24 @@ def killed_at_once(folder):
 
 def read_count(path):
     with open(path, "rb") as file:
-        return int.from_bytes(file.read(136)[128:136], "little")
+        return int.from_bytes(file.read(88)[80:88], "little")
 
 
 def full(folder):
     """A log of one megabyte is full: the program runs on, and the log is exact up to its first lost record."""
     recording = Recording(folder, PROGRAMS / "pair", "30000", "2", options=["--size", "1"])
     head = recording.log.head
+    pathlib.Path(folder, "whole").mkdir()
     check("a program with a full log runs on", recording.said if recording.status else None)
     fault = recording.fault()
-    whole = [record.number for record in recording.log.raw] == list(range(1, head.first_lost))
-    check("a full log is whole up to what it lost", fault or (None if whole else "numbers are missing"))
-    room = 63 * 511
-    kept = head.next_number - 1 - head.lost
+    whole = Recording(pathlib.Path(folder, "whole"), PROGRAMS / "pair", "30000", "2").log.head
+    check("a full log says how many records it lacks", fault or difference(
+        (head.records + head.lost, whole.lost), (whole.records, 0)))
+    room, kept = 63 * 511, head.records
     check("no record is lost but for room", None if room - 511 * 6 < kept <= room else f"{kept} of {room}")
     said = run(RECORD / "pim-log", recording.path).stdout.splitlines()[-1]
     check("a full log says so at its end",
-          difference((said,), (f"# the log was full: {head.lost} records are missing, from {head.first_lost} on",)))
+          difference((said,), (f"# the log was full: {head.lost} records are missing",)))
 
 
 # ---- the wrapper

@@ -310,7 +310,7 @@ def random_joined(converter):
     """Random logs of programs that one started: those of odd seeds are of one version, and can be joined."""
     differ = {}
     for seed in range(FIRST_SEED, FIRST_SEED + LOGS, 2):
-        logs = [bytes(RandomLog(seed + more).data()) for more in (0, *random.Random(seed).sample(range(2, 99, 2), 2))]
+        logs = [bytes(RandomLog(seed + more).data()) for more in (0, *random.Random(seed).sample(range(4, 199, 4), 2))]
         texts = [f"{number} 0x401000 first.c:{number}\n- 0x5000 lock{number}\n".encode() for number in (1, 2, 3)]
         kernel = kernel_of(seed) if seed % 8 == 1 else None
         why = converter.why(logs[0], texts[0], kernel, [*zip(logs[1:], texts[1:])])
