@@ -98,6 +98,12 @@ static void go_on(struct world *world, uint32_t thread, uint32_t but) {
     put(world, GAVE_UP, thread, mutex);
 }
 
+/* A thread has changed a ceiling. If it waited to do so, that is over. */
+static void change_ceiling(struct world *world, uint32_t thread, uint32_t mutex) {
+    if (world->awaits[thread] == mutex) go_on(world, thread, NONE);
+    see_ceiling(world, thread, mutex);
+}
+
 /* A call of a thread has ended, so that it doesn't wait for itself. */
 static void end_own(struct world *world, uint32_t thread) {
     if (world->own[thread] == NONE) return;
@@ -251,7 +257,7 @@ static void tell(struct world *world) {
     switch (record->event) {
     case EVENT_THREAD: begin_thread(world, thread, record); break;
     case EVENT_PRIORITY: set_priority(world, record); break;
-    case EVENT_CEILING: see_ceiling(world, thread, mutex); break;
+    case EVENT_CEILING: change_ceiling(world, thread, mutex); break;
     case EVENT_REQUEST: request(world, thread, mutex); break;
     case EVENT_GRANTED: grant(world, thread, mutex); break;
     case EVENT_FAILED: fail(world, thread, mutex); break;

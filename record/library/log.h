@@ -67,6 +67,7 @@ enum call {
     CALL_TIMEDLOCK = 2,
     CALL_CLOCKLOCK = 3,
     CALL_CONDITION = 4,
+    CALL_CEILING = 5, /* of a REQUEST alone */
     OWNER_DIED = 0x80,
 };
 

@@ -215,7 +215,7 @@ class World:
         self.level = dict(log.first_level)  # by thread
         self.selves, self.tasks = {}, {}    # threads by process and pthread_t, by task
         self.rows = {reader.THREAD: self.thread, reader.PRIORITY: self.priority,
-                     reader.CEILING: self.other_ceiling, reader.REQUEST: self.request,
+                     reader.CEILING: self.changed_ceiling, reader.REQUEST: self.request,
                      reader.GRANTED: self.granted, reader.FAILED: self.failed,
                      reader.RELEASE: self.release}
 
@@ -260,6 +260,12 @@ class World:
             return []
         self.ceiling[mutex] = ceiling
         return [Fact(None, thread, CEILING, mutex, ceiling)]
+
+    def changed_ceiling(self, record):
+        """A thread has changed a ceiling. If it waited to do so, that is over."""
+        thread, mutex, _ = self.of(record)
+        facts = self.goes_on(thread) if self.awaits.get(thread) == mutex else []
+        return facts + self.other_ceiling(record)
 
     def goes_on(self, thread, but=None):
         """A thread that does something else doesn't wait any more."""

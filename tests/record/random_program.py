@@ -12,7 +12,7 @@ from tests.record.logs import reader
 
 NONE, INHERIT, PROTECT = 0x04, 0x24, 0x44
 NORMAL, RECURSIVE, ERRORCHECK = 0, 1, 2
-LOCK, TRYLOCK, TIMEDLOCK, CONDITION = 0, 1, 2, 4
+LOCK, TRYLOCK, TIMEDLOCK, CONDITION, CEILING = 0, 1, 2, 4, 5
 NOT_PERMITTED, BUSY, INVALID, DEADLOCK, TIMED_OUT = 1, 16, 22, 35, 110
 OTHER, FIFO, DEADLINE, KEPT = 0, 1, 6, 15
 DEADLINE_LEVEL = 100
@@ -299,9 +299,13 @@ class Program:
         self.put(thread, reader.PRIORITY, target, value, detail)
 
     def set_ceiling(self, thread, mutex):
-        if mutex.protocol != PROTECT or mutex.owner:
+        if mutex.protocol != PROTECT or mutex.owner is thread:
             return
         mutex.calls += 1
+        if mutex.owner and self.names_owners:
+            self.put_call(reader.REQUEST, thread, mutex, CEILING, mutex.word)
+        while mutex.owner:
+            yield
         mutex.ceiling = self.choose.choice((20, 50, 90))
         detail = mutex.detail() & ~reader.TYPE
         yield from self.late()

@@ -211,6 +211,11 @@ STORIES = {
         "t2": "granted a lock, release a lock, exit",
         "t3": "failed a 16, request a lock t2, granted a lock, release a lock, exit",
         "t4": "failed a 22, exit"},
+    "raises": {
+        "t1": "priority fifo 50 t1, init a protect normal 40, create fifo 20, create fifo 30, request a ceiling t2, "
+              "failed a 22, destroy a, end",
+        "t2": "granted a lock, release a lock, granted a lock, release a lock, exit",
+        "t3": "request a ceiling t2, ceiling a protect normal 45, exit"},
     "turns 2": {
         "t1": "priority fifo 50 t1, init a inherit normal, create fifo 20, create fifo 10, end",
         "t2": "request a lock t3, granted a lock, release a lock, request a lock t3, granted a lock, release a lock, "
