@@ -125,7 +125,8 @@ class Program:
         time = self.now if time is None else time
         if not thread.has_begun:
             thread.has_begun = True
-            self.put(thread, reader.THREAD, thread.self, detail=priority(thread.level), time=time)
+            detail = KEPT if self.chance(0.05) else priority(thread.level)
+            self.put(thread, reader.THREAD, thread.self, detail=detail, time=time)
         self.records.append(((thread.number, event, target, value, detail, how), time))
 
     def put_call(self, event, thread, mutex, call, value=0, time=None):
