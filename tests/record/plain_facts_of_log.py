@@ -604,8 +604,7 @@ class Writer:
         for thread in sorted(self.log.identity):
             self.catch_up(thread)
         if self.whole.head.first_lost:
-            missing = self.whole.head.next_number - self.whole.head.first_lost
-            self.lines.append(f"{self.now} lost {min(missing, MOST_TIME)}")
+            self.lines.append(f"{self.now} lost {min(self.whole.missing, MOST_TIME)}")
         return [*self.lines, f"{self.now} end"]
 
 

@@ -392,6 +392,14 @@ def command(converter):
         check(f"pim-facts writes no LOG{ending}", difference(
             (done.returncode, done.stdout, done.stderr, pathlib.Path(f"{log}{ending}").read_bytes()),
             (2, b"", wanted, read)))
+    other, whole = pathlib.Path(f"{log}.17"), (ROOT / "suite/recordings/several_threads_share_a_chunk.log.txt").read_text()
+    converter.run(bytes(read_text(whole)))
+    other.write_bytes(read_text(whole))
+    done = run("-o", other, log)
+    wanted = 2, f"pim-facts: {other}: it is read, and so isn't written\n".encode(), bytes(read_text(whole))
+    check("pim-facts writes no log of a program that LOG's started",
+          difference((done.returncode, done.stderr, other.read_bytes()), wanted))
+    other.unlink()
     converter.run(data)
     pipe = pathlib.Path(f"{log}.kernel")
     os.mkfifo(pipe)
