@@ -499,8 +499,9 @@ def full(folder):
     check("a program with a full log runs on", recording.said if recording.status else None)
     fault = recording.fault()
     whole = Recording(pathlib.Path(folder, "whole"), PROGRAMS / "pair", "30000", "2").log.head
-    check("a full log says how many records it lacks", fault or difference(
-        (head.records + head.lost, whole.lost), (whole.records, 0)))
+    # A wait for a thread's end is there or not: two records for each of four threads.
+    other = abs(head.records + head.lost - whole.records)
+    check("a full log says how many records it lacks", fault or whole.lost or (None if other <= 8 else f"{other} others"))
     room, kept = 63 * 511, head.records
     check("no record is lost but for room", None if room - 511 * 6 < kept <= room else f"{kept} of {room}")
     said = run(RECORD / "pim-log", recording.path).stdout.splitlines()[-1]
