@@ -7,7 +7,7 @@ ghost use Rattle.pim_fact_lines.specs.declared.line.Line.{Line};
 ghost use Rattle.pim_world.specs.Following.{may_follow};
 ghost use Rattle.pim_rows.specs.Moments.{Moment, now, first_moments, followed_by};
 ghost use Rattle.pim_rows.specs.Rows.{rows_of, status_of, text_of};
-ghost use Rattle.pim_rows.specs.Episodes.{off_time};
+ghost use Rattle.pim_rows.specs.Begun.{off_time};
 ghost use Rattle.pim_rows.specs.Begun.{owner_or_none};
 ghost use Rattle.pim_rows.specs.Kept.{kept_of};
 ghost use Rattle.pim_rows.specs.OffTimes.{AreOffTimes};
