@@ -1,8 +1,10 @@
 -- What a tracker knows of the lines so far.
-use Rattle.std.specs.Prelude.{◌≡◌, List, [], ℕ, Option, Some}
+use Rattle.std.specs.Prelude.{◌≡◌, ℕ, List, [], Some, Option}
+use Rattle.pim_fact_lines.specs.declared.line.Line.{Line}
+use Rattle.pim_world.specs.Texts.{line_after}
 use Rattle.pim_world.specs.Held.{world_of}
 use Rattle.pim_rows.specs.declared.tracker.Tracker.{Tracker}
-use Rattle.pim_rows.specs.Moments.{Moment, now, number}
+use Rattle.pim_rows.specs.Moments.{Moment, now, number, followed_by}
 use Rattle.pim_world.specs.Standing.{waits, is_off}
 use Rattle.pim_rows.specs.Begun.{is_blocked, is_owned, wait_start, block, grant}
 use Rattle.pim_rows.specs.Found.{sections, nests}
@@ -34,6 +36,11 @@ pub record Tracks (t : Tracker) (ms : List Moment) : Type 0 where
   pub sections : t.sections ≡ sections ms
   pub nests : t.nests ≡ nests ms
   pub written : Puts (ended_rows ms) [] t.out.items t.waits t.inverted
+
+-- the bytes spell a line that may follow these, and it has followed that one, too
+abbrev pub HasTaken : Tracker → List Moment → List ℕ → Type 0
+HasTaken t ms bytes =
+    (line : Line) × (line_after (now ms) bytes ≡ Some line) × Tracks t (followed_by ms line)
 
 -- this held of a thread and a mutex
 pub record IsBefore (b : Before) (w : World) (thread mutex : Option ℕ) : Type 0 where

@@ -1,6 +1,5 @@
 pub mod Unknown
 pub mod Fronts
-pub mod Halfway
 pub mod States
 pub mod Cpus
 pub mod Steadiness
