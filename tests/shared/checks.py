@@ -148,8 +148,8 @@ def orphan_of(*command):
 
 
 def program():
-    """Returns the path of the program to test: the script's first argument, or the repository's own."""
-    return str(pathlib.Path(sys.argv[1]).resolve()) if len(sys.argv) > 1 else own_program()
+    """Returns the path of the program to test: that of `./test --program`, or the repository's own."""
+    return os.environ.get("PIM_PROGRAM") or own_program()
 
 
 def own_program(name="pim", crate="pim", text=b"pim 1\n"):

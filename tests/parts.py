@@ -1,0 +1,38 @@
+"""The parts of ./test: what each is about, what is needed by one at a time, and which aren't of unittest yet."""
+
+PARTS = {
+    "suite": "the texts of suite/ and examples/ on every implementation, as they must be answered",
+    "program": "the program as a user meets it, with changed texts, faults, failing allocations, random scripts",
+    "c": "libpim, the manager for C, its kernel c/kernel, and both on other CPUs, in qemu",
+    "bench": "the scripts and the program that measure, with little of each",
+    "launcher": "./pim: what it proves again, what it says, what it installs",
+    "facts": "texts of facts and the rows that follow from them, the laws of rows in random texts",
+    "record": "the recorder of real programs, its wrapper, its logs and their reader",
+    "report": "pim-report: its text, JSON and page of texts of facts",
+    "picture": "the pictures of pim-picture, by hand and compared with the report of pim",
+    "conform": "the running kernel: traces performed on its mutexes, compared with the reports",
+    "web": "the page of web/ and its module of WebAssembly, compared with the program",
+    "docs": "that what the pages say of the files is true",
+}
+# Parts that run only if they are named.
+NAMED = {"release": "./release, twice, and what it makes, in a root of Debian; before a release"}
+# What modules use that no two can use at the same time.
+ONE_AT_A_TIME = {
+    "c/out": ["tests.c.test_library", "tests.c.test_arm", "tests.c.test_kernel"],
+}
+# Scripts that print lines 'ok NAME', 'FAIL NAME: why' and 'skip NAME: why'.
+SCRIPTS = {
+    "suite": ["tests.suite.test_suite"],
+    "program": [f"tests.program.test_{name}" for name in ("judge", "memory", "program", "soak", "streams", "texts")],
+    "c": ["tests.c.test_library", "tests.c.test_arm", "tests.c.test_kernel"],
+    "bench": ["tests.bench.test_bench"],
+    "launcher": ["tests.launcher.test_launcher"],
+    "facts": ["tests.facts.test_facts"],
+    "record": ["tests.record.test_recorder"],
+    "report": ["tests.report.test_report"],
+    "picture": ["tests.picture.test_picture"],
+    "conform": ["tests.conform.test_conform"],
+    "web": ["tests.web.test_web"],
+    "docs": ["tests.docs.test_docs"],
+    "release": ["tests.release.test_release"],
+}
