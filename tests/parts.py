@@ -23,7 +23,6 @@ ONE_AT_A_TIME = {
 # Scripts that print lines 'ok NAME', 'FAIL NAME: why' and 'skip NAME: why'.
 SCRIPTS = {
     "suite": ["tests.suite.test_suite"],
-    "program": [f"tests.program.test_{name}" for name in ("judge", "memory", "program", "soak", "streams", "texts")],
     "c": ["tests.c.test_library", "tests.c.test_arm", "tests.c.test_kernel"],
     "bench": ["tests.bench.test_bench"],
     "launcher": ["tests.launcher.test_launcher"],
@@ -33,6 +32,5 @@ SCRIPTS = {
     "picture": ["tests.picture.test_picture"],
     "conform": ["tests.conform.test_conform"],
     "web": ["tests.web.test_web"],
-    "docs": ["tests.docs.test_docs"],
     "release": ["tests.release.test_release"],
 }

@@ -29,6 +29,9 @@ class Result(unittest.TextTestResult):
         super().__init__(*arguments, **how)
         self.passed, self.having_subtests = 0, set()
 
+    def getDescription(self, test):
+        return test.id()
+
     def addSubTest(self, test, subtest, fault):
         super().addSubTest(test, subtest, fault)
         self.having_subtests.add(test.id())

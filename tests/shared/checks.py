@@ -1,4 +1,5 @@
 """What the scripts beside this file share: lines of checks, runs that end, the program, and calls that fail."""
+import functools
 import os
 import pathlib
 import signal
@@ -147,11 +148,13 @@ def orphan_of(*command):
     return status, out.decode().splitlines()[-1:], err.decode()
 
 
+@functools.lru_cache(maxsize=None)
 def program():
     """Returns the path of the program to test: that of `./test --program`, or the repository's own."""
     return os.environ.get("PIM_PROGRAM") or own_program()
 
 
+@functools.lru_cache(maxsize=None)
 def own_program(name="pim", crate="pim", text=b"pim 1\n"):
     """Returns the path of a program of the repository, and builds it if it is older than the code.
 
