@@ -25,7 +25,6 @@ SCRIPTS = {
     "suite": ["tests.suite.test_suite"],
     "c": ["tests.c.test_library", "tests.c.test_arm", "tests.c.test_kernel"],
     "bench": ["tests.bench.test_bench"],
-    "launcher": ["tests.launcher.test_launcher"],
     "facts": ["tests.facts.test_facts"],
     "record": ["tests.record.test_recorder"],
     "report": ["tests.report.test_report"],
