@@ -21,7 +21,7 @@ from tests.record.test_stacks import NEST
 
 PROGRAMS, SKIPPED = ROOT / "record/out/programs", 77
 SOURCES, REPORT = ROOT / "record/programs", ROOT / "report/pim-report"
-ROWS = f"{sys.executable} {ROOT}/tests/plain_facts/rows.py"
+ROWS = f"{sys.executable} {ROOT}/tests/facts/plain/rows.py"
 MOST_RECORDINGS = 40
 MILLISECOND = 1_000_000
 

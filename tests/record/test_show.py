@@ -28,7 +28,7 @@ class Release:
         shutil.copytree(ROOT / "record", self.root / "record", symlinks=True, ignore=left_out)
         shutil.copytree(ROOT / "report", self.root / "report")
         self.place.mkdir()
-        self.findings("exec python3", f"{ROOT}/tests/plain_facts/rows.py")
+        self.findings("exec python3", f"{ROOT}/tests/facts/plain/rows.py")
 
     def findings(self, *words):
         """Makes a script that stands for pim-findings."""
