@@ -22,13 +22,9 @@ ONE_AT_A_TIME = {
 }
 # Scripts that print lines 'ok NAME', 'FAIL NAME: why' and 'skip NAME: why'.
 SCRIPTS = {
-    "suite": ["tests.suite.test_suite"],
     "c": ["tests.c.test_library", "tests.c.test_arm", "tests.c.test_kernel"],
-    "bench": ["tests.bench.test_bench"],
-    "facts": ["tests.facts.test_facts"],
     "record": ["tests.record.test_recorder"],
     "report": ["tests.report.test_report"],
-    "picture": ["tests.picture.test_picture"],
     "conform": ["tests.conform.test_conform"],
     "web": ["tests.web.test_web"],
     "release": ["tests.release.test_release"],
