@@ -1,4 +1,5 @@
 """What the scripts beside this file share: lines of checks, runs that end, the program, and calls that fail."""
+import fcntl
 import functools
 import os
 import pathlib
@@ -176,6 +177,16 @@ def built(crate, file, *command):
         subprocess.run(command, cwd=folder, check=True, stdout=subprocess.DEVNULL)
         os.utime(made)
     return str(made)
+
+
+def made(folder, *goals):
+    """Makes goals in a folder of the repository. Of several that do so at the same time one waits for the other."""
+    with open(ROOT / folder / "Makefile", encoding="utf-8") as lock:
+        fcntl.flock(lock, fcntl.LOCK_EX)
+        words = ["make", "-s", "-C", ROOT / folder, *goals]
+        done = subprocess.run(words, stdout=subprocess.PIPE, stderr=subprocess.STDOUT, text=True)
+    if done.returncode:
+        raise OSError(f"make -C {folder}: {done.stdout[-2000:]}")
 
 
 def compiled(source, folder, *flags):
