@@ -23,8 +23,6 @@ ONE_AT_A_TIME = {
 # Scripts that print lines 'ok NAME', 'FAIL NAME: why' and 'skip NAME: why'.
 SCRIPTS = {
     "c": ["tests.c.test_library", "tests.c.test_arm", "tests.c.test_kernel"],
-    "report": ["tests.report.test_report"],
-    "conform": ["tests.conform.test_conform"],
     "web": ["tests.web.test_web"],
     "release": ["tests.release.test_release"],
 }

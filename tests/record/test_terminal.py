@@ -322,6 +322,13 @@ wait $job
 """
 
 
+def end_left():
+    """Ends the jobs that a part has left, as one that broke off."""
+    for job in [*LEFT]:
+        job.kill()
+        job.close()
+
+
 class AtATerminal(Case):
     KERNEL = []
 
