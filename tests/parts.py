@@ -16,13 +16,26 @@ PARTS = {
 }
 # Parts that run only if they are named.
 NAMED = {"release": "./release, twice, and what it makes, in a root of Debian; before a release"}
-# What modules use that no two can use at the same time.
+# What modules use that no two can use at the same time. Of real-time threads on one CPU each would delay the others.
 ONE_AT_A_TIME = {
-    "c/out": ["tests.c.test_library", "tests.c.test_arm", "tests.c.test_kernel"],
+    "the crates of libpim": ["tests.c.test_library", "tests.c.test_arm", "tests.c.test_kernel"],
+    "web/dist": ["tests.suite.test_suite", "tests.web.test_web"],
+    "real-time threads, and tracefs": [
+        "tests.conform.test_conform", "tests.suite.test_performers", "tests.c.test_library",
+        *(f"tests.record.test_{name}" for name in ("recorder", "kernel", "report", "pid", "terminal", "contended", "last",
+                                                   "futex", "lttng"))],
+}
+# What is built before the modules of these parts start, since several use it.
+BUILDS = {
+    "pim": ("suite program c bench picture conform web report", "echo pim 1 | ./pim check"),
+    "pim-findings": ("facts", "echo facts 1 | ./pim-findings"),
+    "libpim": ("suite c bench", "make -s -C c all pthreads out/freestanding out/steps"),
+    "the recorder": ("record", "make -s -C record CFLAGS='-O2 -Werror'"),
+    "the performer": ("suite conform", "make -s -C conform CFLAGS='-O2 -Werror' all programs"),
+    "the page": ("suite web", "web/build"),
 }
 # Scripts that print lines 'ok NAME', 'FAIL NAME: why' and 'skip NAME: why'.
 SCRIPTS = {
     "c": ["tests.c.test_library", "tests.c.test_arm", "tests.c.test_kernel"],
-    "web": ["tests.web.test_web"],
     "release": ["tests.release.test_release"],
 }

@@ -1,8 +1,7 @@
 """Runs the tests of parts, each module by itself, on all CPUs. `./test -h` has the arguments.
 
-A module is a script of unittest: `python3 -m unittest tests.suite.test_suite` runs it alone, too. Here it
-runs in a process of its own, whose output is printed when it has ended. Modules with a word in common in
-`ONE_AT_A_TIME` use the same thing, and one waits for the other.
+`python3 -m unittest tests.suite.test_suite` runs a module alone, too. Here it runs in a process of its own,
+whose output is printed when it has ended. What several modules need is built before they start.
 """
 import argparse
 import collections
@@ -16,7 +15,7 @@ import tempfile
 import time
 import unittest
 
-from tests.parts import NAMED, ONE_AT_A_TIME, PARTS, SCRIPTS
+from tests.parts import BUILDS, NAMED, ONE_AT_A_TIME, PARTS, SCRIPTS
 
 ROOT = pathlib.Path(__file__).resolve().parents[1]
 ENDS = "== what was counted: "
@@ -73,7 +72,7 @@ class Module:
 
     def __init__(self, part, name):
         self.part, self.name, self.is_script = part, name, name in SCRIPTS.get(part, ())
-        self.uses = {word for words, modules in ONE_AT_A_TIME.items() if name in modules for word in words.split()}
+        self.uses = {what for what, modules in ONE_AT_A_TIME.items() if name in modules}
 
     def start(self, patterns):
         words = [self.name] if self.is_script else ["tests.run", "--module", self.name]
@@ -102,6 +101,20 @@ def modules_of(part):
     """Returns the modules of a part."""
     found = [f"tests.{part}.{path.stem}" for path in sorted((ROOT / "tests" / part).glob("test_*.py"))]
     return [Module(part, name) for name in SCRIPTS.get(part, found)]
+
+
+def build(parts):
+    """Builds what several modules use, one after the other, and returns how many builds failed."""
+    failed = 0
+    for name, (users, command) in BUILDS.items():
+        if parts & set(users.split()):
+            print(f"== building {name}, unless it is built", flush=True)
+            how = {"stdout": subprocess.DEVNULL, "stderr": subprocess.PIPE, "text": True, "errors": "replace"}
+            done = subprocess.run(["sh", "-c", command], cwd=ROOT, **how)
+            if done.returncode:
+                failed += 1
+                print(f"FAIL: {name} isn't built\n{done.stderr[-2000:]}", flush=True)
+    return failed
 
 
 def run_all(modules, patterns, jobs):
@@ -155,15 +168,16 @@ def main():
     if given.program:
         os.environ["PIM_PROGRAM"] = str(pathlib.Path(given.program).resolve())
     modules = [module for part in given.parts or PARTS for module in modules_of(part)]
+    unbuilt = 0 if given.patterns else build({module.part for module in modules})
     counts = run_all(modules, given.patterns, given.jobs)
-    passed, failed, skipped = (sum((it[at] for it in counts.values()), type(start)()) for at, start in
-                               enumerate((0, 0, [])))
+    passed, failed = (sum(it[at] for it in counts.values()) for at in (0, 1))
+    failed += unbuilt
     for part, (its_passed, its_failed, its_skipped) in counts.items():
         print(f"{part}: {its_passed} passed, {its_failed} failed, {len(its_skipped)} skipped")
         for name, why in its_skipped:
             print(f"    skipped {name}: {why}")
     print(f"{passed} passed, {failed} failed")
-    return 1 if failed or not passed + len(skipped) else 0
+    return 1 if failed or not any(map(any, counts.values())) else 0
 
 
 if __name__ == "__main__":

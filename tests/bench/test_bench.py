@@ -11,7 +11,7 @@ import sys
 import xml.etree.ElementTree as xml
 
 from tests.cases import Case, temporary_folder
-from tests.shared.checks import ROOT, answer, built, difference, program
+from tests.shared.checks import ROOT, answer, built, difference, made, program
 
 sys.path[:0] = [str(ROOT / "bench"), str(ROOT / "tests/facts/plain")]
 import facts  # noqa: E402
@@ -117,6 +117,10 @@ class Rows(Measuring):
 
 
 class Bench(Measuring):
+    @classmethod
+    def setUpClass(cls):
+        made("c", "out/steps")
+
     def test_measure_prints_its_tables(self):
         little = ["--tasks", 6, "--steps", 100, "--repeat", 1]
         self.tables("measure.py", run("bench/measure.py", *little, program()), ["Trace", *TEXTS])

@@ -21,7 +21,7 @@ from tests.c import header
 from tests.c import narrow
 from tests.c import replays
 from tests.c.machines import ARM, ARM_GENERAL, ARM_TARGET, C, expect, run, said
-from tests.shared.checks import check, difference, end, skip
+from tests.shared.checks import check, difference, end, made, skip
 
 
 def programs():
@@ -59,10 +59,7 @@ if lacking:
     skip("libpim on 64-bit ARM", f"there is no {' and no '.join(lacking)}")
     end()
 print("building libpim for 64-bit ARM, and what is over it", flush=True)
-command = ["make", "-s", "-C", C, "all", f"out/{ARM_TARGET}/freestanding", f"TARGET={ARM_TARGET}"]
-built = subprocess.run(command, capture_output=True, text=True)
-if built.returncode:
-    sys.exit(f"c/ was not built:\n{built.stdout[-2000:]}{built.stderr[-2000:]}")
+made("c", "all", f"out/{ARM_TARGET}/freestanding", f"TARGET={ARM_TARGET}")
 machine()
 with tempfile.TemporaryDirectory() as temporary:
     programs()

@@ -21,7 +21,7 @@ from tests.c import code
 from tests.c import header
 from tests.c import replays
 from tests.c.machines import C, HEADER, HERE, OUT, README, expect, passes, run, said
-from tests.shared.checks import ROOT, SECONDS, check, difference, end, skip
+from tests.shared.checks import ROOT, SECONDS, check, difference, end, made, skip
 
 # What `make install` puts below its prefix.
 INSTALLED = """
@@ -165,10 +165,7 @@ def rust(folder):
 
 
 print("building libpim, and what is over it", flush=True)
-made = ["all", "pthreads", "out/freestanding", "out/steps"]
-built = subprocess.run(["make", "-s", "-C", C, *made], capture_output=True, text=True)
-if built.returncode:
-    sys.exit(f"c/ was not built:\n{built.stdout[-2000:]}{built.stderr[-2000:]}")
+made("c", "all", "pthreads", "out/freestanding", "out/steps")
 with tempfile.TemporaryDirectory() as temporary:
     programs()
     installed(temporary)
