@@ -18,10 +18,10 @@ PARTS = {
 NAMED = {"release": "./release, twice, and what it makes, in a root of Debian; before a release"}
 # What modules use that no two can use at the same time. Of real-time threads on one CPU each would delay the others.
 ONE_AT_A_TIME = {
-    "the crates of libpim": ["tests.c.test_library", "tests.c.test_arm", "tests.c.test_kernel"],
+    "the crates of libpim": [f"tests.c.test_{name}" for name in ("library", "header", "threads", "arm", "narrow", "kernel")],
     "web/dist": ["tests.suite.test_suite", "tests.web.test_web"],
     "real-time threads, and tracefs": [
-        "tests.conform.test_conform", "tests.suite.test_performers", "tests.c.test_library",
+        "tests.conform.test_conform", "tests.suite.test_performers", "tests.c.test_threads",
         *(f"tests.record.test_{name}" for name in ("recorder", "kernel", "report", "pid", "terminal", "contended", "last",
                                                    "futex", "lttng"))],
 }
@@ -36,6 +36,5 @@ BUILDS = {
 }
 # Scripts that print lines 'ok NAME', 'FAIL NAME: why' and 'skip NAME: why'.
 SCRIPTS = {
-    "c": ["tests.c.test_library", "tests.c.test_arm", "tests.c.test_kernel"],
     "release": ["tests.release.test_release"],
 }
