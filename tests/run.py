@@ -85,6 +85,8 @@ class Module:
         """Prints what the module printed, and returns what it counted. One that broke off has failed."""
         self.output.seek(0)
         text, counts = counted(self.output.read(), self.is_script)
+        if counts == [0, 0, []]:
+            return counts  # no test of it was asked for
         minutes, seconds = divmod(round(time.monotonic() - self.began), 60)
         print(f"== {self.name}, {minutes} min {seconds} s\n{text}", end="", flush=True)
         if counts is None:
@@ -167,7 +169,7 @@ def main():
         return run_module(given.module, given.patterns)
     if given.program:
         os.environ["PIM_PROGRAM"] = str(pathlib.Path(given.program).resolve())
-    modules = [module for part in given.parts or PARTS for module in modules_of(part)]
+    modules = [module for part in dict.fromkeys(given.parts or PARTS) for module in modules_of(part)]
     unbuilt = 0 if given.patterns else build({module.part for module in modules})
     counts = run_all(modules, given.patterns, given.jobs)
     passed, failed = (sum(it[at] for it in counts.values()) for at in (0, 1))

@@ -1,4 +1,4 @@
-"""What tests/record does with the collector: the process of a recording that writes the logs to their files."""
+"""The collector: the process of a recording that writes the logs to their files."""
 import contextlib
 import os
 import pathlib

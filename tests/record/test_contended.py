@@ -1,4 +1,4 @@
-"""What tests/record does with pim-record --contended: what was waited for is in the log, with its owner, and no more."""
+"""pim-record --contended: what was waited for is in the log, with its owner, and no more."""
 import os
 import pathlib
 

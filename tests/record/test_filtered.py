@@ -1,4 +1,4 @@
-"""What tests/record does with programs under a seccomp filter, which ends them at a system call of the recorder."""
+"""Programs under a seccomp filter, which ends them at a system call of the recorder."""
 import os
 import select
 import signal

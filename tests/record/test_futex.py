@@ -1,7 +1,7 @@
-"""The part of tests/record about the waits of pim-record --kernel, and who ended them: record/FORMAT.md.
+"""The waits of pim-record --kernel, and who ended them: record/FORMAT.md.
 
-`python3 -m tests.record.test_futex` plays it alone, once the recorder is built. record/programs/futexes.c has the calls. It
-prints what it knows of each wait; the recording has exactly these, and no other wake.
+record/programs/futexes.c has the calls. It prints what it knows of each wait; the recording has
+exactly these, and no other wake.
 """
 
 from tests.cases import Case

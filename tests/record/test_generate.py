@@ -1,4 +1,4 @@
-"""What tests/record does with record/generate, whose logs are what was asked for."""
+"""record/generate, whose logs are what was asked for."""
 import pathlib
 import struct
 

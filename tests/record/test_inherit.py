@@ -1,4 +1,4 @@
-"""What tests/record does with docs/FINDINGS.md: both forms of its mutexes compile, and inherit."""
+"""docs/FINDINGS.md: both forms of its mutexes compile, and inherit."""
 import pathlib
 import re
 import subprocess

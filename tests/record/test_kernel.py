@@ -1,4 +1,4 @@
-"""What tests/record does with the kernel's events: recordings where the rights are, and stored and hand-made files."""
+"""The kernel's events: recordings where the rights are, and stored and hand-made files."""
 import fcntl
 import functools
 import os

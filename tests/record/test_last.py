@@ -1,4 +1,4 @@
-"""What tests/record does with pim-record --last: the latest records, snapshots, and the waits that cause one."""
+"""pim-record --last: the latest records, snapshots, and the waits that cause one."""
 import os
 import pathlib
 import signal

@@ -1,5 +1,6 @@
-"""What tests/record does with the laws of record/FORMAT.md: logs by hand that keep them, and logs
-that break one, of which pim-log says just that."""
+"""The laws of record/FORMAT.md: logs by hand that keep them, and logs that break one, of which
+pim-log says just that.
+"""
 import pathlib
 import struct
 import tempfile

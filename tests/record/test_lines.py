@@ -1,5 +1,4 @@
-"""What tests/record does with record/pim-log and logs by hand: each event's line, and the edges of
-what the reader accepts."""
+"""record/pim-log and logs by hand: each event's line, and the edges of what the reader accepts."""
 import pathlib
 import struct
 import tempfile

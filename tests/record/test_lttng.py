@@ -1,7 +1,6 @@
-"""The part of tests/record about record/from-lttng: what it makes of events by hand, and of a program that LTTng traces.
+"""record/from-lttng: what it makes of events by hand, and of a program that LTTng traces.
 
-`python3 -m tests.record.test_lttng` plays it alone. The last part is skipped without Debian's lttng-tools, liblttng-ust-dev and
-babeltrace2.
+The last part is skipped without Debian's lttng-tools, liblttng-ust-dev and babeltrace2.
 """
 import os
 import pathlib

@@ -1,7 +1,7 @@
-"""The part of tests/record about waits for what isn't a mutex, and about what ends them: record/FORMAT.md.
+"""Waits for what isn't a mutex, and about what ends them: record/FORMAT.md.
 
-`python3 -m tests.record.test_others` plays it alone, once the recorder is built. record/programs/others.c has the calls. It
-prints where its objects are, and what the calls returned. A thread sleeps before its wait is ended.
+record/programs/others.c has the calls. It prints where its objects are, and what the calls
+returned. A thread sleeps before its wait is ended.
 """
 import pathlib
 import shutil

@@ -1,5 +1,7 @@
-"""What tests/record does with logs by hand of which the report must say whose a mutex was: what a REQUEST names, where its
-record may come before the GRANTED of the owner, and calls that lasted for longer than a record can say."""
+"""Logs by hand of which the report must say whose a mutex was: what a REQUEST names, where its
+record may come before the GRANTED of the owner, and calls that lasted for longer than a record can
+say.
+"""
 import pathlib
 
 from tests.cases import Case

@@ -1,7 +1,6 @@
-"""The part of tests/record about pim-record --pid, which records the kernel's events of a program that runs already.
+"""pim-record --pid, which records the kernel's events of a program that runs already.
 
-`python3 -m tests.record.test_pid` plays it alone, once the recorder is built. What is waited for is seen in the instance, or
-said by the program: no check waits for a time.
+What is waited for is seen in the instance, or said by the program: no check waits for a time.
 """
 import ctypes
 import errno

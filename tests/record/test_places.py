@@ -1,7 +1,6 @@
-"""The part of tests/record about where in the code calls are made: the places in the records, and their lines.
+"""Where in the code calls are made: the places in the records, and their lines.
 
-`python3 -m tests.record.test_places` plays it alone, once the recorder is built. record/FORMAT.md and
-record/INSIDE.md say what is tested.
+record/FORMAT.md and record/INSIDE.md say what is tested.
 """
 import os
 import pathlib

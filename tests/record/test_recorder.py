@@ -1,23 +1,8 @@
-"""tests/record: the recorder of record/, its wrapper, its logs and their reader.
+"""The recorder of record/, its wrapper, its logs and their reader.
 
-Builds the recorder, records each program of record/programs, and compares what each thread did with what its source
-says; sees what the wrapper does with what can't be recorded, with a full log, with programs that are killed, and at the end
-of a recording; records real programs where they are installed; and reads logs that are made by hand, and damaged ones.
-
-| Module | Plays |
-|---|---|
-| record_report.py, record_show.py | what pim-report says of recordings, and pim-record at their end |
-| record_owners.py | whose the mutexes of logs by hand were |
-| record_to_facts.py, record_suite.py | what pim-facts writes, of recordings by hand too |
-| record_kernel.py, record_futex.py, record_pid.py | the kernel's events, the waits in them, those of a program that runs |
-| record_collector.py, record_last.py, record_contended.py | what writes the logs, the latest records, and what was waited for |
-| record_filtered.py, record_valgrind.py | programs under a seccomp filter, and under valgrind |
-| record_places.py, record_stacks.py | where calls are made, and who called |
-| record_others.py, record_unseen.py | waits for what isn't a mutex, and what waits unseen |
-| record_terminal.py, record_inherit.py, record_lttng.py | a terminal's keys, docs/FINDINGS.md, record/from-lttng |
-| record_lines.py, record_laws.py, record_generate.py | pim-log, and record/generate |
-
-Prints a line for each check: 'ok NAME', 'FAIL NAME: why' or 'skip NAME: why'.
+Records each program of record/programs, and compares what each thread did with what its source says; sees what the
+wrapper does with what can't be recorded, with a full log, with programs that are killed, and at the end of a recording;
+records real programs where they are installed; and reads logs that are made by hand, and damaged ones.
 """
 import os
 import pathlib

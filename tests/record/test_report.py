@@ -1,8 +1,8 @@
-"""The part of tests/record about what a recorder's user is told: pim-record and pim-report of
-programs whose source says who held up whom, and of real ones.
+"""What a recorder's user is told: pim-record and pim-report of programs whose source says who held
+up whom, and of real ones.
 
-`python3 -m tests.record.test_report` plays it alone, once the recorder is built. The rows are made by
-tests/facts/plain/rows.py, and for a user by pim-findings: ./test facts compares both.
+The rows are made by tests/facts/plain/rows.py, and for a user by pim-findings: ./test facts
+compares both.
 """
 import json
 import os

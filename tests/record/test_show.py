@@ -1,8 +1,7 @@
-"""The part of tests/record about what pim-record says at the end of a recording: the report, or how
-to see it.
+"""What pim-record says at the end of a recording: the report, or how to see it.
 
-`python3 -m tests.record.test_show` plays it alone, once the recorder is built. It plays a copy of the
-recorder, laid out as in a release, in which tests/facts/plain/rows.py stands for pim-findings.
+It plays a copy of the recorder, laid out as in a release, in which tests/facts/plain/rows.py stands
+for pim-findings.
 """
 import os
 import pathlib

@@ -1,7 +1,6 @@
-"""The part of tests/record about who called a lock that waits: pim-record --stacks.
+"""Who called a lock that waits: pim-record --stacks.
 
-`python3 -m tests.record.test_stacks` plays it alone, once the recorder is built. record/FORMAT.md and
-record/INSIDE.md say what is tested.
+record/FORMAT.md and record/INSIDE.md say what is tested.
 """
 import os
 import shutil

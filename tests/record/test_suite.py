@@ -1,5 +1,6 @@
-"""What tests/record does with suite/recordings: logs and kernel's events by hand, and what pim-facts writes of them.
-suite/recordings/README.md says what the files are."""
+"""suite/recordings: logs and kernel's events by hand, and what pim-facts writes of them.
+suite/recordings/README.md says what the files are.
+"""
 import importlib
 import pathlib
 import re

@@ -1,7 +1,7 @@
-"""What tests/record does at a terminal: keys that stop and end a program under pim-record, with --kernel and without.
+"""At a terminal: keys that stop and end a program under pim-record, with --kernel and without.
 
-A small shell is the first process of the terminal's session. It runs pim-record as a job, as a shell with job control
-does, and reports each change of the job's status.
+A small shell is the first process of the terminal's session. It runs pim-record as a job, as a
+shell with job control does, and reports each change of the job's status.
 """
 import os
 import pathlib

@@ -1,6 +1,8 @@
-"""What tests/record does with pim-facts: it writes of logs by hand what is written here, and of recordings, of random
-logs and of random kernel's events what plain_facts_of_log.py writes. Each text is one that the plain reader of facts
-finds valid. Damaged logs are refused, and clang's fuzzer finds no fault, where it is installed."""
+"""pim-facts: it writes of logs by hand what is written here, and of recordings, of random logs and
+of random kernel's events what plain_facts_of_log.py writes. Each text is one that the plain reader
+of facts finds valid. Damaged logs are refused, and clang's fuzzer finds no fault, where it is
+installed.
+"""
 import os
 import pathlib
 import random

@@ -1,7 +1,4 @@
-"""The part of tests/record about what pim-record says of waits that aren't recorded, by what a program imports.
-
-`python3 -m tests.record.test_unseen` plays it alone.
-"""
+"""What pim-record says of waits that aren't recorded, by what a program imports."""
 import pathlib
 import struct
 import subprocess

@@ -1,4 +1,4 @@
-"""What tests/record does with programs under valgrind, and with callers that were linked without the C library."""
+"""Programs under valgrind, and with callers that were linked without the C library."""
 import pathlib
 import re
 import shutil
