@@ -1,4 +1,4 @@
-//! Tests of pim_text, pim_page, pim_judge, pim_runs and pim_tool: each of their public calls once, and streams that fail.
+//! Tests of pim_text, pim_page, pim_judge and pim_tool: each of their public calls once, and streams that fail.
 //!
 //! What texts can show is in suite/, which tests/suite plays on the program. The tests have a crate of their own,
 //! since a crate with tests is proved a second time with them.

@@ -1,8 +1,7 @@
 //! Runs of scripts, their traces and verdicts.
 
 use pim_base::{Entry, MutexNo, Op, Reply, Step, TaskNo};
-use pim_judge::manager_of;
-use pim_runs::{judge_entries, print_trace, print_verdict};
+use pim_judge::{judge_entries, manager_of, print_trace, print_verdict};
 use pim_tool::{Fault, MemoryReader, MemoryWriter, Verdict, check, parse_script, run, status};
 use std::alloc::Global;
 use std::test::Fail;

@@ -1,7 +1,7 @@
 use Rattle.std.proofs.Common.{◌≡◌, ◌+◌, map, drop}
 use Rattle.pim_base.specs.Recordings.{entry_line}
 use Rattle.pim_base.specs.Reports.{verdict_from}
-use Rattle.pim_runs.proofs.entries.judge_entries.Given as goal
+use Rattle.pim_judge.proofs.entries.judge_entries.Given as goal
 
 -- the verdict is that of the other entries
 abbrev pub invariant-loop-index : goal.invariant-loop-index

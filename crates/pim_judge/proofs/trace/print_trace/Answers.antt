@@ -2,10 +2,10 @@ use Rattle.std.proofs.Common.{rules, ◌≡◌, refl, ◌∙◌}
 use Rattle.std.proofs.lemmas.Result.{MatchResult-weaker}
 use Rattle.pim_base.specs.Recordings.{recording, text_of}
 use Rattle.pim_text.specs.Reading.{trace_of}
-use Rattle.pim_runs.specs.Printed.{declarations_text}
+use Rattle.pim_judge.specs.Printed.{declarations_text}
 use Rattle.pim_judge.proofs.PrintingLemmas.{prints_err, stops_memory, puts_none, puts_all, stops_page}
-use Rattle.pim_runs.proofs.TraceLineLemmas.{puts_text, stops_text}
-use Rattle.pim_runs.proofs.trace.print_trace.Goals as goal
+use Rattle.pim_judge.proofs.TraceLineLemmas.{puts_text, stops_text}
+use Rattle.pim_judge.proofs.trace.print_trace.Goals as goal
 
 pub returns-in_err-page : goal.returns-in_err-page
 returns-in_err-page g c =

@@ -12,7 +12,7 @@ use Rattle.pim_base.specs.declared.lines.Line.{Line}
 use Rattle.pim_base.specs.declared.lines.Line.TheVariants as lines
 use Rattle.pim_page.specs.Ends.{Told, Puts}
 use Rattle.pim_page.specs.Printed.{tasks_text, mutexes_text, entry_text}
-use Rattle.pim_runs.specs.Printed.{declarations_text}
+use Rattle.pim_judge.specs.Printed.{declarations_text}
 use Rattle.pim_judge.specs.Prints.{Stops}
 use Rattle.pim_judge.specs.declared.fault.Fault.{Fault}
 

@@ -1,7 +1,7 @@
 use Rattle.std.proofs.Common.{◌∙◌}
 use Rattle.pim_judge.proofs.PrintingLemmas.{prints_err, stops_next, puts_next}
-use Rattle.pim_runs.proofs.TraceLineLemmas.{entries_next}
-use Rattle.pim_runs.proofs.trace.print_entries.Goals as goal
+use Rattle.pim_judge.proofs.TraceLineLemmas.{entries_next}
+use Rattle.pim_judge.proofs.trace.print_entries.Goals as goal
 
 pub returns-in_err-print_entry : goal.returns-in_err-print_entry
 returns-in_err-print_entry g c =

@@ -1,6 +1,6 @@
 use Rattle.std.proofs.Common.{◌≡◌, length, ◌∙◌, sym, arith}
-use Rattle.pim_runs.proofs.EntryLemmas.{entry_verdict, end_verdict}
-use Rattle.pim_runs.proofs.entries.judge_entries.Goals as goal
+use Rattle.pim_judge.proofs.EntryLemmas.{entry_verdict, end_verdict}
+use Rattle.pim_judge.proofs.entries.judge_entries.Goals as goal
 
 pub returns-then-not-is_recorded : goal.returns-then-not-is_recorded
 returns-then-not-is_recorded c =

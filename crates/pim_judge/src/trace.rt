@@ -4,12 +4,13 @@ ghost use Rattle.pim_base.specs.Texts.{IsWithinLimits};
 ghost use Rattle.pim_base.specs.Recordings.{recording, text_of};
 ghost use Rattle.pim_text.specs.Reading.{trace_of};
 ghost use Rattle.pim_page.specs.Printed.{entry_text};
-ghost use Rattle.pim_runs.specs.Printed.{declarations_text};
+ghost use Rattle.pim_judge.specs.Printed.{declarations_text};
 ghost use Rattle.pim_judge.specs.Prints.{Prints};
 ghost use Rattle.pim_judge.specs.Taken.{Takes};
 
+use crate::fault::Fault;
+use crate::printer::Printer;
 use pim_base::Entry;
-use pim_judge::{Fault, Printer};
 use pim_page::{Page, Sink};
 use pim_text::Text;
 use std::alloc::{AllocError, Global};
@@ -46,7 +47,7 @@ fn print_entries<W: Sink>(printer: &mut Printer<'_, W>, entries: &[Entry]) -> Re
 }
 
 /// Adds the line of an entry.
-#[tactic(auto, using(pim_judge::proofs::PrintingLemmas::prints_unwritten))]
+#[tactic(auto, using(crate::proofs::PrintingLemmas::prints_unwritten))]
 fn print_entry<W: Sink>(printer: &mut Printer<'_, W>, entry: &Entry) -> Result<(), Fault>
     ensures { Takes W.told printer.old printer.new (entry_text entry.now) result }
 {

@@ -2,11 +2,12 @@
 ghost use Rattle.std.specs.Prelude.{◌≡◌, ◌<◌, ◌^◌, [], length, map, Some};
 ghost use Rattle.pim_base.specs.Reports.{agrees, verdict_from};
 ghost use Rattle.pim_base.specs.Recordings.{entry_line};
-ghost use Rattle.pim_runs.specs.Printed.{verdict_line};
+ghost use Rattle.pim_judge.specs.Printed.{verdict_line};
 ghost use Rattle.pim_judge.specs.Prints.{Prints};
 
+use crate::fault::Fault;
+use crate::printer::Printer;
 use pim_base::{Entry, Reply, Verdict};
-use pim_judge::{Fault, Printer};
 use pim_manager::Manager;
 use pim_page::{Page, Sink};
 use std::alloc::Global;
@@ -38,7 +39,7 @@ fn is_recorded(entry: &Entry, reply: &Reply) -> bool
 /// # Errors
 ///
 /// Returns `Fault::Write` if the write fails, and `Fault::Memory` if out of memory.
-#[tactic(auto, using(pim_judge::proofs::PrintingLemmas::prints_unwritten))]
+#[tactic(auto, using(crate::proofs::PrintingLemmas::prints_unwritten))]
 pub fn print_verdict<W: Sink>(alloc: Global, writer: &mut W, verdict: &Verdict) -> Result<(), Fault>
     ensures { Prints (W.told writer.old) (W.told writer.new) (verdict_line verdict.now) [] result }
 {

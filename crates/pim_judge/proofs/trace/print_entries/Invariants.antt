@@ -2,7 +2,7 @@ use Rattle.std.proofs.Common.{◌≡◌, ◌++◌, drop}
 use Rattle.std.specs.List.{flat_map}
 use Rattle.pim_page.specs.Ends.{Puts}
 use Rattle.pim_page.specs.Printed.{entry_text}
-use Rattle.pim_runs.proofs.trace.print_entries.Given as goal
+use Rattle.pim_judge.proofs.trace.print_entries.Given as goal
 
 -- all is written but the page and the lines of the other entries
 abbrev pub invariant-loop-entry : goal.invariant-loop-entry
