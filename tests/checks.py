@@ -175,6 +175,11 @@ def built(crate, file, *command):
     return str(made)
 
 
+def soak():
+    """Returns the path of crates/pim_soak, which runs what the tests and measurements of the manager ask for."""
+    return built("pim_soak", "pim_soak", "rt", "run", "--", "0")
+
+
 def compiled(source, folder, *flags):
     """Returns the path of what g++ makes of a C++ file, in the folder."""
     made = os.path.join(folder, pathlib.Path(source).stem)

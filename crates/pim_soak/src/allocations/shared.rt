@@ -1,15 +1,13 @@
 //! The calls of a shared manager, and workers.
 
-use crate::managers::{free, is_waited_for, lock, waited_for};
-use crate::{BEFORE, IN_CALL, expect_right};
+use super::managers::{free, is_waited_for, lock, waited_for};
+use super::{Failure, expect, expect_right};
 use pim_base::{Entry, MAX_WORKERS, MutexNo, Op, Reason, Refusal, Reply, Step, TaskNo};
 use pim_manager::Manager;
 use pim_shared::{Gate, Log, Looker, Settled, Shared, SharedFault, gather, run_scripts, worker};
 use std::alloc::Global;
-use std::process::Abort;
 use std::sync::Wait;
 use std::sync::atomic::{AtomicBool, Ordering};
-use std::test::Fail;
 use std::thread;
 use std::thread::Threads;
 
@@ -85,11 +83,18 @@ fn has_four_calls(manager: &Manager, log: &Log) -> bool {
 }
 
 /// Makes a shared manager whose task 2 waits for task 1, with one reader.
-fn shared_by_two<R: Abort + Wait>(rt: &R, alloc: Global) -> Result<(Shared, Looker), Fail> {
+fn shared_by_two<R: Wait>(rt: &R, alloc: Global) -> Result<(Shared, Looker), Failure> {
     let manager = waited_for(alloc)?;
-    let (shared, mut lookers) = Shared::new(rt, alloc, manager, 10, 1).map_err(|_fault| BEFORE)?;
-    let looker = lookers.pop().expect(rt, "a looker");
-    Ok((shared, looker))
+    let (shared, mut lookers) = Shared::new(rt, alloc, manager, 10, 1).map_err(
+        |_fault| Failure::Before,
+    )?;
+    match lookers.pop() {
+        Some(looker) => Ok((shared, looker)),
+        None => {
+            let _end = shared.finish(rt);
+            Err(Failure::Wrong)
+        }
+    }
 }
 
 /// What four calls show: what each returns, a read before and after them, and whether all or none was made.
@@ -140,38 +145,36 @@ fn called<R: Wait>(rt: &R, shared: Shared, looker: Looker, by_looker: bool) -> F
     }
 }
 
-/// Tests that all four calls were made or none, as they returned.
-fn expect_called(rt: &impl Abort, called: FourCalls) -> Result<(), Fail> {
+/// Fails unless all four calls were made or none, as they returned.
+fn expect_called(called: FourCalls) -> Result<(), Failure> {
     if called.answers[0].is_err() {
-        assert!(rt; called.answers == CLOSED && called.is_unchanged);
-        assert!(rt; called.looks == [at_base(0), at_base(0)]);
-        return Err(IN_CALL)?;
+        expect(called.answers == CLOSED && called.is_unchanged)?;
+        expect(called.looks == [at_base(0), at_base(0)])?;
+        return Err(Failure::InCall);
     }
-    assert!(rt; called.answers == REPLIES && called.has_four_calls);
-    assert!(rt; called.looks == [at_base(0), at_base(4)]);
+    expect(called.answers == REPLIES && called.has_four_calls)?;
+    expect(called.looks == [at_base(0), at_base(4)])?;
     Ok(())
 }
 
-/// Makes the four calls on a new shared manager, and tests what they show.
-fn expect_calls<R: Abort + Wait>(rt: &R, alloc: Global, by_looker: bool) -> Result<(), Fail> {
+/// Makes the four calls on a new shared manager, and looks at what they show.
+fn expect_calls<R: Wait>(rt: &R, alloc: Global, by_looker: bool) -> Result<(), Failure> {
     let (shared, looker) = shared_by_two(rt, alloc)?;
     // A reply can't be carried past a `?`: there is none behind these calls.
     let called = called(rt, shared, looker, by_looker);
-    expect_called(rt, called)
+    expect_called(called)
 }
 
-#[test]
-fn call_out_of_memory(rt: HostRuntime) -> Result<(), Fail> {
-    expect_calls(&rt, rt.alloc(), false)
+pub(crate) fn call<R: Wait>(rt: &R, alloc: Global) -> Result<(), Failure> {
+    expect_calls(rt, alloc, false)
 }
 
-#[test]
-fn call_with_out_of_memory(rt: HostRuntime) -> Result<(), Fail> {
-    expect_calls(&rt, rt.alloc(), true)
+pub(crate) fn call_with<R: Wait>(rt: &R, alloc: Global) -> Result<(), Failure> {
+    expect_calls(rt, alloc, true)
 }
 
 /// Returns whether both readers of a new shared manager see no entry, and its end is its start.
-fn starts<R: Abort + Wait>(rt: &R, manager: Manager, alloc: Global) -> Result<bool, SharedFault> {
+fn starts<R: Wait>(rt: &R, manager: Manager, alloc: Global) -> Result<bool, SharedFault> {
     let (shared, mut lookers) = Shared::new(rt, alloc, manager, 100, 2)?;
     let mut are_right = lookers.len() == 2;
     for looker in &mut lookers {
@@ -181,14 +184,13 @@ fn starts<R: Abort + Wait>(rt: &R, manager: Manager, alloc: Global) -> Result<bo
     Ok(are_right && is_unchanged(&manager, &log))
 }
 
-#[test]
-fn shared_new_out_of_memory(rt: HostRuntime) -> Result<(), Fail> {
-    let manager = waited_for(rt.alloc())?;
-    let is_right = starts(&rt, manager, rt.alloc());
+pub(crate) fn shared_new<R: Wait>(rt: &R, alloc: Global) -> Result<(), Failure> {
+    let manager = waited_for(alloc)?;
+    let is_right = starts(rt, manager, alloc);
     if let Err(fault) = is_right {
-        assert!(rt; fault == SharedFault::Memory || fault == SharedFault::NoPlace);
+        expect(fault == SharedFault::Memory || fault == SharedFault::NoPlace)?;
     }
-    expect_right(&rt, is_right.ok())
+    expect_right(is_right.ok())
 }
 
 /// A gate before a shared manager in which task 2 waits from the start on: its lock is queued. It knows when a task
@@ -259,22 +261,23 @@ fn settle_and_call<R: Threads + Wait + Sync>(rt: &R, gate: &Waiting<'_>) -> Opti
 }
 
 /// The task that waits meanwhile is woken, and its worker ends. After the unlock task 2 releases its mutex, too.
-#[test]
-fn call_beside_a_waiting_task_out_of_memory(rt: HostRuntime) -> Result<(), Fail> {
-    let (shared, _looker) = shared_by_two(&rt, rt.alloc())?;
-    let answers = settle_and_call(&rt, &Waiting::new(&shared));
-    let (manager, log) = shared.finish(&rt);
+pub(crate) fn call_beside_a_waiting_task<R: Threads + Wait + Sync>(
+    rt: &R,
+    alloc: Global,
+) -> Result<(), Failure> {
+    let (shared, _looker) = shared_by_two(rt, alloc)?;
+    let answers = settle_and_call(rt, &Waiting::new(&shared));
+    let (manager, log) = shared.finish(rt);
     let are_made = log.entries().len() == 3 && manager.owner(FIRST) == Some(None);
     let is_unchanged = is_unchanged(&manager, &log);
     drop(manager);
     drop(log);
-    let answers = answers.ok_or(BEFORE)?;
+    let answers = answers.ok_or(Failure::Before)?;
     if answers == (Ok(()), Ok(())) {
-        assert!(rt; are_made);
-        return Ok(());
+        return expect(are_made);
     }
-    assert!(rt; is_unchanged && answers == (Err(SharedFault::Closed), Err(SharedFault::Memory)));
-    Err(IN_CALL)?
+    expect(is_unchanged && answers == (Err(SharedFault::Closed), Err(SharedFault::Memory)))?;
+    Err(Failure::InCall)
 }
 
 /// Two scripts in opposite orders over two mutexes, or the fault if an allocation failed.
@@ -311,12 +314,14 @@ fn run_of<R: Threads + Wait + Sync>(
     rt: &R,
     alloc: Global,
     scripts: &[Vec<Op>],
-) -> Result<(Result<(), SharedFault>, Log), Fail> {
+) -> Result<(Result<(), SharedFault>, Log), Failure> {
     if scripts.len() > MAX_WORKERS {
-        return Err("as many workers as scripts")?;
+        return Err(Failure::Wrong);
     }
     let manager = free(alloc)?;
-    let (shared, _lookers) = Shared::new(rt, alloc, manager, 10, 0).map_err(|_fault| BEFORE)?;
+    let (shared, _lookers) = Shared::new(rt, alloc, manager, 10, 0).map_err(
+        |_fault| Failure::Before,
+    )?;
     let answer = run_scripts(rt, alloc, &shared, scripts);
     let (_manager, log) = shared.finish(rt);
     Ok((answer, log))
@@ -327,7 +332,7 @@ fn ran<R: Threads + Wait + Sync>(
     rt: &R,
     alloc: Global,
     scripts: &[Vec<Op>],
-) -> Result<(Result<(), SharedFault>, bool), Fail> {
+) -> Result<(Result<(), SharedFault>, bool), Failure> {
     let start = free(alloc)?;
     let (answer, log) = run_of(rt, alloc, scripts)?;
     let is_right = if answer.is_ok() {
@@ -339,14 +344,16 @@ fn ran<R: Threads + Wait + Sync>(
 }
 
 /// If a worker isn't started, the other makes its whole script. If a call is out of memory, both end.
-#[test]
-fn run_scripts_out_of_memory(rt: HostRuntime) -> Result<(), Fail> {
-    let scripts = scripts(rt.alloc()).map_err(|_fault| BEFORE)?;
-    let (answer, is_right) = ran(&rt, rt.alloc(), &scripts)?;
-    assert!(rt; is_right);
-    if let Err(fault) = answer {
-        assert!(rt; fault == SharedFault::Memory);
-        Err(IN_CALL)?
+pub(crate) fn run_scripts_in_opposite_orders<R: Threads + Wait + Sync>(
+    rt: &R,
+    alloc: Global,
+) -> Result<(), Failure> {
+    let scripts = scripts(alloc).map_err(|_fault| Failure::Before)?;
+    let (answer, is_right) = ran(rt, alloc, &scripts)?;
+    expect(is_right)?;
+    match answer {
+        Ok(()) => Ok(()),
+        Err(SharedFault::Memory) => Err(Failure::InCall),
+        Err(_) => Err(Failure::Wrong),
     }
-    Ok(())
 }

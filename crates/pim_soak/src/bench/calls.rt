@@ -1,8 +1,8 @@
 //! Calls by several threads.
 
-use crate::asking::{Change, expect};
-use crate::scene::change;
-use crate::timed::{Timed, all_of};
+use crate::bench::asking::{Change, expect};
+use crate::bench::scene::change;
+use crate::bench::timed::{Timed, all_of};
 use std::alloc::Global;
 use std::sync::{Mutex, Wait};
 use std::thread::Threads;

@@ -1,8 +1,8 @@
 //! Reads by several threads while a writer never rests.
 
-use crate::asking::{Ask, Change, expect};
-use crate::scene::change;
-use crate::timed::{Timed, all_of};
+use crate::bench::asking::{Ask, Change, expect};
+use crate::bench::scene::change;
+use crate::bench::timed::{Timed, all_of};
 use pim_base::TaskNo;
 use std::alloc::Global;
 use std::sync::atomic::{AtomicBool, Ordering};

@@ -1,13 +1,11 @@
 //! The parts of a manager: its tables and its queues, and their copies.
 
-use crate::managers::{PROTOCOLS, bases};
-use crate::{BEFORE, expect_right};
+use super::managers::{PROTOCOLS, bases};
+use super::{Failure, expect, expect_right};
 use pim_base::{MutexNo, Prio, TaskNo, Waiter};
 use pim_chain::Tables;
 use pim_queue::Queue;
 use std::alloc::{AllocError, Global};
-use std::process::Abort;
-use std::test::Fail;
 
 /// Returns whether there are three tasks of base 10 and two mutexes, for which nobody waits.
 fn are_fresh(tables: &Tables) -> bool {
@@ -24,38 +22,36 @@ fn shown(made: Result<Tables, AllocError>) -> Option<bool> {
     Some(are_fresh(&tables))
 }
 
-#[test]
-fn tables_out_of_memory(rt: HostRuntime) -> Result<(), Fail> {
-    let bases = bases()?;
-    let made = Tables::new(rt.alloc(), &bases, &PROTOCOLS);
-    expect_right(&rt, shown(made))
+pub(crate) fn made_tables(alloc: Global) -> Result<(), Failure> {
+    let bases = bases();
+    let made = Tables::new(alloc, &bases, &PROTOCOLS);
+    expect_right(shown(made))
 }
 
-#[test]
-fn copied_tables_out_of_memory(rt: HostRuntime) -> Result<(), Fail> {
-    let bases = bases()?;
-    let made = Tables::new(rt.alloc(), &bases, &PROTOCOLS);
-    let tables = made.map_err(|_error| BEFORE)?;
-    let is_copy = shown(tables.try_clone(rt.alloc()));
+pub(crate) fn copied_tables(alloc: Global) -> Result<(), Failure> {
+    let bases = bases();
+    let made = Tables::new(alloc, &bases, &PROTOCOLS);
+    let tables = made.map_err(|_error| Failure::Before)?;
+    let is_copy = shown(tables.try_clone(alloc));
     let are_unchanged = are_fresh(&tables);
     drop(tables);
-    assert!(rt; are_unchanged);
-    expect_right(&rt, is_copy)
+    expect(are_unchanged)?;
+    expect_right(is_copy)
 }
 
-/// Lets task 1 wait at 10, with ticket 7.
-fn insert(rt: &impl Abort, queue: &mut Queue) {
+/// Lets task 1 wait at 10, with ticket 7, if it may.
+fn insert(queue: &mut Queue) {
     let (task, ticket) = (TaskNo(1), 7);
-    let prio = Prio::new(10).expect(rt, "a priority");
-    assert!(rt; queue.has_room());
-    assert!(rt; !queue.contains(task) && !queue.has_ticket(ticket));
-    queue.insert(Waiter { task, prio, ticket });
+    let prio = Prio::new(10).unwrap();
+    if queue.has_room() && !queue.contains(task) && !queue.has_ticket(ticket) {
+        queue.insert(Waiter { task, prio, ticket });
+    }
 }
 
 /// Returns a queue with room for 2, in which task 1 waits, unless an allocation failed.
-fn queue_of_one(rt: &impl Abort, alloc: Global) -> Result<Queue, AllocError> {
+fn queue_of_one(alloc: Global) -> Result<Queue, AllocError> {
     let mut queue = Queue::new(alloc, 2)?;
-    insert(rt, &mut queue);
+    insert(&mut queue);
     Ok(queue)
 }
 
@@ -75,18 +71,16 @@ fn has_one_if_made(made: Result<Queue, AllocError>) -> Option<bool> {
     Some(has_one(&queue))
 }
 
-#[test]
-fn queue_out_of_memory(rt: HostRuntime) -> Result<(), Fail> {
-    let made = queue_of_one(&rt, rt.alloc());
-    expect_right(&rt, has_one_if_made(made))
+pub(crate) fn made_queue(alloc: Global) -> Result<(), Failure> {
+    let made = queue_of_one(alloc);
+    expect_right(has_one_if_made(made))
 }
 
-#[test]
-fn copied_queue_out_of_memory(rt: HostRuntime) -> Result<(), Fail> {
-    let queue = queue_of_one(&rt, rt.alloc()).map_err(|_error| BEFORE)?;
-    let is_copy = has_one_if_made(queue.try_clone(rt.alloc()));
+pub(crate) fn copied_queue(alloc: Global) -> Result<(), Failure> {
+    let queue = queue_of_one(alloc).map_err(|_error| Failure::Before)?;
+    let is_copy = has_one_if_made(queue.try_clone(alloc));
     let is_unchanged = has_one(&queue);
     drop(queue);
-    assert!(rt; is_unchanged);
-    expect_right(&rt, is_copy)
+    expect(is_unchanged)?;
+    expect_right(is_copy)
 }

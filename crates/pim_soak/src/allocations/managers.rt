@@ -1,18 +1,16 @@
 //! The calls of a manager.
 
-use crate::{BEFORE, IN_CALL, expect_right};
+use super::{Failure, expect, expect_right};
 use pim_base::{MutexNo, Op, Prio, Protocol, Refusal, Reply, Step, TaskNo};
 use pim_manager::{MakeFault, Manager, TrackedManager};
 use std::alloc::Global;
-use std::process::Abort;
-use std::test::Fail;
 
 /// The protocols of both mutexes.
 pub const PROTOCOLS: [Protocol; 2] = [Protocol::Inherit, Protocol::None];
 
 /// Returns the bases of three tasks.
-pub fn bases() -> Result<[Prio; 3], Fail> {
-    Ok([Prio::new(10).ok_or("a priority")?; 3])
+pub fn bases() -> [Prio; 3] {
+    [Prio::new(10).unwrap(); 3]
 }
 
 /// Returns the step in which the task locks mutex 1.
@@ -24,23 +22,23 @@ pub fn lock(task: u16) -> Step {
 }
 
 /// Makes a manager of three tasks, whose two mutexes are free.
-pub fn free(alloc: Global) -> Result<Manager, Fail> {
-    Ok(Manager::new(alloc, &bases()?, &PROTOCOLS).map_err(|_fault| BEFORE)?)
+pub fn free(alloc: Global) -> Result<Manager, Failure> {
+    Manager::new(alloc, &bases(), &PROTOCOLS).map_err(|_fault| Failure::Before)
 }
 
 /// Makes a manager whose task 1 owns mutex 1, for which task 2 waits.
-pub fn waited_for(alloc: Global) -> Result<Manager, Fail> {
+pub fn waited_for(alloc: Global) -> Result<Manager, Failure> {
     let mut manager = free(alloc)?;
     manager.run(&[lock(1), lock(2)]);
     Ok(manager)
 }
 
-/// Tests that what was made is right, unless an allocation failed, which must be the fault.
-fn expect_made(rt: &impl Abort, is_right: Result<bool, MakeFault>) -> Result<(), Fail> {
+/// Fails unless what was made is right, unless an allocation failed, which must be the fault.
+fn expect_made(is_right: Result<bool, MakeFault>) -> Result<(), Failure> {
     if let Err(fault) = is_right {
-        assert!(rt; fault == MakeFault::Memory);
+        expect(fault == MakeFault::Memory)?;
     }
-    expect_right(rt, is_right.ok())
+    expect_right(is_right.ok())
 }
 
 /// Returns whether there are three tasks of base 10, two free mutexes, and this next ticket.
@@ -61,18 +59,16 @@ fn shown(made: Result<Manager, MakeFault>, next: u64) -> Result<bool, MakeFault>
     }
 }
 
-#[test]
-fn new_out_of_memory(rt: HostRuntime) -> Result<(), Fail> {
-    let bases = bases()?;
-    let made = Manager::new(rt.alloc(), &bases, &PROTOCOLS);
-    expect_made(&rt, shown(made, 1))
+pub(crate) fn new(alloc: Global) -> Result<(), Failure> {
+    let bases = bases();
+    let made = Manager::new(alloc, &bases, &PROTOCOLS);
+    expect_made(shown(made, 1))
 }
 
-#[test]
-fn with_next_ticket_out_of_memory(rt: HostRuntime) -> Result<(), Fail> {
-    let bases = bases()?;
-    let made = Manager::with_next_ticket(rt.alloc(), &bases, &PROTOCOLS, 7);
-    expect_made(&rt, shown(made, 7))
+pub(crate) fn with_next_ticket(alloc: Global) -> Result<(), Failure> {
+    let bases = bases();
+    let made = Manager::with_next_ticket(alloc, &bases, &PROTOCOLS, 7);
+    expect_made(shown(made, 7))
 }
 
 /// Returns whether task 1 owns mutex 1, and task 2 alone waits for it.
@@ -83,10 +79,9 @@ pub fn is_waited_for(manager: &Manager) -> bool {
         && manager.next_ticket() == 2
 }
 
-#[test]
-fn try_clone_out_of_memory(rt: HostRuntime) -> Result<(), Fail> {
-    let mut manager = waited_for(rt.alloc())?;
-    let copy = manager.try_clone(rt.alloc());
+pub(crate) fn try_clone(alloc: Global) -> Result<(), Failure> {
+    let mut manager = waited_for(alloc)?;
+    let copy = manager.try_clone(alloc);
     // The manager steps on, whether it was copied or not.
     let after = (manager.step(lock(3)).reply, manager.next_ticket());
     drop(manager);
@@ -94,8 +89,8 @@ fn try_clone_out_of_memory(rt: HostRuntime) -> Result<(), Fail> {
         Ok(copy) => Some(is_waited_for(&copy)),
         Err(_error) => None,
     };
-    assert!(rt; after == (Reply::Queued, 3));
-    expect_right(&rt, is_copy)
+    expect(after == (Reply::Queued, 3))?;
+    expect_right(is_copy)
 }
 
 /// Returns the number of replies of task 3, which locks mutex 1 again and again, and the first of them.
@@ -104,19 +99,18 @@ fn replied(alloc: Global, manager: &mut Manager) -> Option<(usize, Option<Reply>
     Some((replies.len(), replies.first().copied()))
 }
 
-#[test]
-fn run_replies_out_of_memory(rt: HostRuntime) -> Result<(), Fail> {
-    let mut manager = waited_for(rt.alloc())?;
-    let replied = replied(rt.alloc(), &mut manager);
+pub(crate) fn run_replies(alloc: Global) -> Result<(), Failure> {
+    let mut manager = waited_for(alloc)?;
+    let replied = replied(alloc, &mut manager);
     let is_unchanged = is_waited_for(&manager);
     let after = (manager.next_ticket(), manager.step(lock(3)).reply);
     drop(manager);
     let Some(replies) = replied else {
-        assert!(rt; is_unchanged && after == (2, Reply::Queued));
-        return Err(IN_CALL)?;
+        expect(is_unchanged && after == (2, Reply::Queued))?;
+        return Err(Failure::InCall);
     };
-    assert!(rt; replies == (100, Some(Reply::Queued)));
-    assert!(rt; after == (3, Reply::Refused(Refusal::Waiting)));
+    expect(replies == (100, Some(Reply::Queued)))?;
+    expect(after == (3, Reply::Refused(Refusal::Waiting)))?;
     Ok(())
 }
 
@@ -136,9 +130,8 @@ fn changes_two(made: Result<Box<TrackedManager>, MakeFault>) -> Result<bool, Mak
     }
 }
 
-#[test]
-fn tracked_manager_out_of_memory(rt: HostRuntime) -> Result<(), Fail> {
-    let bases = bases()?;
-    let made = TrackedManager::new(rt.alloc(), &bases, &PROTOCOLS);
-    expect_made(&rt, changes_two(made))
+pub(crate) fn tracked_manager(alloc: Global) -> Result<(), Failure> {
+    let bases = bases();
+    let made = TrackedManager::new(alloc, &bases, &PROTOCOLS);
+    expect_made(changes_two(made))
 }

@@ -1,17 +1,13 @@
-//! The plain manager as a program, which judges traces as `pim` does.
+//! A judge of traces over the plain manager, with the lines, faults and exit statuses of `pim`.
 //!
-//! It reads a trace from standard input, makes the steps on a `PlainManager`, and prints the report, with the lines,
-//! faults and exit statuses of `pim`. So tests/suite compares the other implementations with one that computes each
-//! priority and reason from scratch.
-//!
-//! The program is proved to be safe. No contract says what it prints, apart from those of the functions that it calls.
-#![tactic(auto)]
+//! It computes each priority and reason from scratch, and `tests/suite` and `tests/judge` compare the other
+//! implementations with it. No contract says what it prints, apart from those of the functions that it calls.
 
 mod report;
 
-use crate::report::report_of;
 use pim_base::Verdict;
 use pim_text::{TextFault, parse};
+use report::report_of;
 use std::fmt::Display;
 use std::io::{self, Read, Write};
 use std::process::ExitCode;
@@ -19,20 +15,21 @@ use std::process::ExitCode;
 /// The exit status for a fault.
 const FAULT: u8 = 2;
 
-fn main(rt: HostRuntime) -> ExitCode {
+/// Reads a trace from standard input, and prints its report.
+pub fn judge(rt: &HostRuntime) -> ExitCode {
     let mut bytes = Vec::new(rt.alloc());
     if rt.reader().read_to_end(&mut bytes).is_err() {
-        return fault(&rt, "read");
+        return fault(rt, "read");
     }
     let text = match parse(rt.alloc(), &bytes) {
         Ok(text) => text,
-        Err(invalid) => return fault(&rt, invalid),
+        Err(invalid) => return fault(rt, invalid),
     };
     let Ok((page, verdict)) = report_of(rt.alloc(), &text) else {
-        return fault(&rt, TextFault::Memory);
+        return fault(rt, TextFault::Memory);
     };
-    if io::writer(&rt).write_all(page.as_slice()).is_err() {
-        return fault(&rt, "write");
+    if io::writer(rt).write_all(page.as_slice()).is_err() {
+        return fault(rt, "write");
     }
     match verdict {
         Verdict::Accepted(_) => ExitCode::from(0),

@@ -1,10 +1,10 @@
 //! The two tables of figures.
 
-use crate::asking::{Counted, LockReader};
-use crate::calls::time_calls;
-use crate::looks::time_looks;
-use crate::scene::manager;
-use crate::timed::Timed;
+use crate::bench::asking::{Counted, LockReader};
+use crate::bench::calls::time_calls;
+use crate::bench::looks::time_looks;
+use crate::bench::scene::manager;
+use crate::bench::timed::Timed;
 use pim_shared::Shared;
 use std::alloc::{AllocError, Global};
 use std::io;
