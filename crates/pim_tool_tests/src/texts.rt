@@ -1,7 +1,7 @@
-//! What is read of a trace and of a script.
+//! What is read of a trace.
 
 use pim_base::{MutexNo, Op, Prio, Protocol, Reply, Step, StepLine, TaskNo};
-use pim_text::{Text, TextFault, parse, parse_script};
+use pim_text::{TextFault, parse};
 use std::test::Fail;
 
 /// There is no such priority.
@@ -37,18 +37,6 @@ fn trace_is_read_into_its_parts(rt: HostRuntime) -> Result<(), Fail> {
     assert!(rt; text.protocols.as_slice() == [Protocol::Protect(seven)].as_slice());
     assert!(rt; text.lines.as_slice() == [lock, release].as_slice());
     Ok(())
-}
-
-fn steps(text: Text) -> usize {
-    text.lines.len()
-}
-
-#[test]
-fn script_has_no_recorded_replies(rt: HostRuntime) {
-    let script = parse_script(rt.alloc(), b"pim 1\ntask 1 10\n1 release\n");
-    assert!(rt; script.map(steps) == Ok(1));
-    let recorded = parse_script(rt.alloc(), b"pim 1\ntask 1 10\n1 release = freed\n");
-    assert!(rt; recorded.map(steps) == Err(TextFault::Line(3)));
 }
 
 #[test]

@@ -4,7 +4,7 @@ use pim_base::{Prio, TaskNo};
 use pim_judge::Verdict::{Accepted, Rejected};
 use pim_judge::{
     Fault, MemoryReader, MemoryWriter, Printer, Verdict, judge, judge_bytes, manager_of, parse,
-    parse_script, read_all, status,
+    read_all, status,
 };
 use pim_manager::SharedFault;
 use pim_page::Page;
@@ -64,16 +64,6 @@ fn traces_are_judged_from_a_stream_and_in_memory(rt: HostRuntime) -> Result<(), 
         assert!(rt; judged.report.as_slice() == *report && judged.verdict == *verdict);
     }
     Ok(())
-}
-
-#[test]
-fn first_bad_line_is_a_fault(rt: HostRuntime) {
-    let judged = judge_bytes(rt.alloc(), b"pim 1\n\0").err();
-    let trace = parse(rt.alloc(), b"pim 1\ntask 1 100\n").err();
-    let script = parse_script(rt.alloc(), b"pim 1\ntask 1 10\n1 release = freed\n").err();
-    assert!(rt; judged == Some(Fault::Line(2)));
-    assert!(rt; trace == Some(Fault::Line(2)));
-    assert!(rt; script == Some(Fault::Line(3)));
 }
 
 #[test]
