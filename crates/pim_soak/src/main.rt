@@ -101,22 +101,38 @@ fn job_of(words: &[String]) -> Option<Job> {
 
 /// Returns the job of one argument.
 fn job_of_one(job: &str) -> Option<Job> {
-    match job {
-        "opposite" => Some(Job::Opposite),
-        "judge" => Some(Job::Judge),
-        "allocations" => Some(Job::Calls),
-        seconds => Some(Job::Soak(seconds.parse().ok()?, 1)),
+    if job == "opposite" {
+        Some(Job::Opposite)
+    } else if job == "judge" {
+        Some(Job::Judge)
+    } else if job == "allocations" {
+        Some(Job::Calls)
+    } else {
+        Some(Job::Soak(job.parse().ok()?, 1))
     }
 }
 
 /// Returns the job of two arguments.
 fn job_of_two(job: &str, argument: &str) -> Option<Job> {
-    match (job, argument) {
-        ("planted", seed) => Some(Job::Planted(seed.parse().ok()?)),
-        ("bench", "full") => Some(Job::Bench(Amount::Full)),
-        ("bench", "small") => Some(Job::Bench(Amount::Small)),
-        ("allocations", name) => Some(Job::Allocations(call_of(name)?)),
-        (seconds, seed) => Some(Job::Soak(seconds.parse().ok()?, seed.parse().ok()?)),
+    if job == "planted" {
+        Some(Job::Planted(argument.parse().ok()?))
+    } else if job == "bench" {
+        Some(Job::Bench(amount_of(argument)?))
+    } else if job == "allocations" {
+        Some(Job::Allocations(call_of(argument)?))
+    } else {
+        Some(Job::Soak(job.parse().ok()?, argument.parse().ok()?))
+    }
+}
+
+/// Returns how much is measured.
+fn amount_of(name: &str) -> Option<Amount> {
+    if name == "full" {
+        Some(Amount::Full)
+    } else if name == "small" {
+        Some(Amount::Small)
+    } else {
+        None
     }
 }
 
