@@ -1,4 +1,4 @@
-"""What measures, in bench/, c/bench/ and crates/pim_bench, with little of each.
+"""What measures, in bench/, c/bench/ and crates/pim_soak, with little of each.
 
 The tables are complete, the plot is XML with a curve for each program, pim and libpim answer as plain C++ does on
 what is measured, rows.cpp writes the rows of docs/ROWS.md, and the scripts end with the right status.
@@ -11,7 +11,7 @@ import sys
 import xml.etree.ElementTree as xml
 
 from tests.cases import Case, temporary_folder
-from tests.shared.checks import ROOT, answer, built, difference, made, program
+from tests.shared.checks import ROOT, answer, difference, made, program, soak
 
 sys.path[:0] = [str(ROOT / "bench"), str(ROOT / "tests/facts/plain")]
 import facts  # noqa: E402
@@ -170,12 +170,12 @@ class Bench(Measuring):
             statuses = answer([runs.stepper(), "check"], text)[0], answer([program()], text)[0]
             self.equal(f"the scene {name}", statuses, (0, 0))
 
-    def test_pim_bench_prints_reads_and_calls_a_second(self):
-        """pim_bench prints how many reads and calls a second there are, next to locks round the same manager."""
-        status, out, err = answer([built("pim_bench", "pim_bench", "rt", "run"), "small"])
+    def test_pim_soak_prints_reads_and_calls_a_second(self):
+        """pim_soak prints how many reads and calls a second there are, next to locks round the same manager."""
+        status, out, err = answer([soak(), "bench", "small"])
         lines = out.decode().splitlines()
         begin = next((n for n, line in enumerate(lines) if line.startswith("threads")), len(lines))
-        self.equal("pim_bench ends", (status, err), (0, b""))
+        self.equal("pim_soak ends", (status, err), (0, b""))
         self.check("its reads", wrong_rates(lines[:begin], [1, 4, 8]))
         self.check("its calls", wrong_rates(lines[begin:], [1, 4, 16]))
 

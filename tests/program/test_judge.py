@@ -2,14 +2,15 @@
 
 Both are given small traces of the kinds that bench/texts.py makes, these with recorded replies, right
 ones and a wrong one, texts with a few bytes changed, which are nearly all invalid, and lines of the
-second version in texts of the first.
-Both must write the same bytes to both streams and end with the same status.
+second version in texts of the first. The plain manager, which is proved and computes each priority
+from scratch, is given traces of few tasks, with unknown numbers among them.
+All must write the same bytes to both streams and end with the same status.
 """
 import random
 import sys
 
 from tests.cases import Case, temporary_folder
-from tests.shared.checks import ROOT, answer, compiled, difference, program
+from tests.shared.checks import ROOT, answer, compiled, difference, program, soak
 
 sys.path.insert(0, str(ROOT / "bench"))
 from texts import TEXTS, mixed, second, wide  # noqa: E402
@@ -76,16 +77,28 @@ def many_locks():
         yield locked + b"1 release\n2 try 1\n2 release\n"
 
 
+def with_unknown_numbers(text):
+    """Returns the text with other numbers, and numbers that aren't declared, in some of its steps."""
+    draw, lines = random.Random(7), []
+    for line in text.splitlines():
+        if line[:1].isdigit() and draw.random() < 0.2:
+            words = line.split()
+            words[draw.randrange(0, len(words), 2)] = str(draw.randint(1, 8))
+            line = " ".join(words)
+        lines.append(line + "\n")
+    return "".join(lines).encode()
+
+
 class Judge(Case):
     @classmethod
     def setUpClass(cls):
         cls.pim, cls.judge = program(), compiled(ROOT / "bench/judge.cpp", temporary_folder(cls.addClassCleanup))
 
-    def compare(self, name, texts):
-        """Gives each text to both, up to the first on which they differ."""
+    def compare(self, name, texts, judge=()):
+        """Gives each text to both, up to the first on which they differ. The judge is that in C++ if omitted."""
         count, why = 0, None
         for count, text in enumerate(texts, 1):
-            if why := difference(answer([self.pim], text), answer([self.judge], text)):
+            if why := difference(answer([self.pim], text), answer([*judge] or [self.judge], text)):
                 break
         self.check(f"{name}, {count} texts", why if count else "there is none")
 
@@ -115,3 +128,8 @@ class Judge(Case):
 
     def test_many_locks_of_a_recursive_mutex(self):
         self.compare("locks", many_locks())
+
+    def test_unknown_numbers_as_the_plain_manager(self):
+        for make in (mixed, second):
+            texts = (with_unknown_numbers(make(6, 500, seed)) for seed in range(20))
+            self.compare(make.__name__, texts, [soak(), "judge"])

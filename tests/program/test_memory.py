@@ -1,19 +1,18 @@
 """Each allocation of the calls that allocate, and of the program, fails.
 
-Runs each test of crates/pim_failing_allocations whose name ends in '_out_of_memory': its first allocation
-fails, then its second, until no failing one is left. The test must pass, or end in the error by which it
-says that its call was out of memory and changed nothing. The program must then end with status 2, a prefix
-of the report, and the line 'pim: memory'. A script that the program runs or checks must then end with
-status 2, no output, and one of three lines; so it must if one of its threads can't be started. Of the
-program, 'check' and 'run' must be out of memory in the run at least once: one that printed its output
-without a run would never be. The log of a run must have room for the run's entries, and for no
-more.
+Makes each call of crates/pim_soak that allocates: its first allocation fails, then its second, until no
+failing one is left. The call must succeed, or report that it was out of memory, and then it changed nothing.
+The program must then end with status 2, a prefix of the report, and the line 'pim: memory'. A script that
+the program runs or checks must then end with status 2, no output, and one of three lines; so it must if one
+of its threads can't be started. Of the program, 'check' and 'run' must be out of memory in the run at least
+once: one that printed its output without a run would never be. The log of a run must have room for the
+run's entries, and for no more.
 """
 import re
 import subprocess
 
 from tests.cases import Case, temporary_folder
-from tests.shared.checks import Faulty, answer, built, difference, program
+from tests.shared.checks import Faulty, answer, difference, program, soak
 
 MOST = 5_000
 STEPS = 5_000
@@ -71,23 +70,20 @@ def steps_of(out):
 class FailingAllocations(Case):
     @classmethod
     def setUpClass(cls):
-        cls.tests = built("pim_failing_allocations", "pim_failing_allocations_tests", "rt", "test")
-        cls.pim, cls.faulty = program(), Faulty(temporary_folder(cls.addClassCleanup))
+        cls.pim, cls.soak, cls.faulty = program(), soak(), Faulty(temporary_folder(cls.addClassCleanup))
 
     def test_each_call_that_allocates(self):
-        listed = subprocess.run([self.tests, "--list"], stdout=subprocess.PIPE, text=True).stdout
-        names = re.findall(r"^(\S+_out_of_memory)\b", listed, re.M)
+        names = subprocess.run([self.soak, "allocations"], stdout=subprocess.PIPE, text=True).stdout.split()
         # The calls 'judge', 'check' and 'run' are those of the program.
         self.assertGreaterEqual(len(names), 17, names)
         for name in names:
-            label = re.sub(r"^.*::|_out_of_memory$", "", name)
-            with self.subTest(label):
+            with self.subTest(name):
                 self.assertGreater(self.failed_in(name), 0, "no allocation of it failed")
 
     def failed_in(self, name):
-        """Checks a call by its test, and counts the allocations that the call itself makes."""
+        """Checks a call, and counts the allocations that the call itself makes."""
         failed = 0
-        for number, (status, out, err) in sweep(self.faulty, [self.tests, name]):
+        for number, (status, out, err) in sweep(self.faulty, [self.soak, "allocations", name]):
             said = (out + err).decode(errors="replace")
             failed += "out of memory in the call" in said
             if status != 0 and not re.search("out of memory (in|before) the call", said):

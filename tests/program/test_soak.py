@@ -15,7 +15,7 @@ import subprocess
 import time
 
 from tests.cases import Case, temporary_folder
-from tests.shared.checks import ROOT, SECONDS as HANGS, answer, built, compiled, difference, program
+from tests.shared.checks import ROOT, SECONDS as HANGS, answer, compiled, difference, program, soak
 
 SECONDS = int(os.environ.get("SOAK_SECONDS", "5"))
 
@@ -110,7 +110,7 @@ def said_of_reads(child):
 class Soak(Case):
     @classmethod
     def setUpClass(cls):
-        cls.soak = built("pim_soak", "pim_soak", "rt", "run", "--", "0")
+        cls.soak = soak()
 
     def test_mistakes_in_a_run_are_found(self):
         for seed in PLANTED_SEEDS:

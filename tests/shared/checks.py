@@ -179,6 +179,11 @@ def built(crate, file, *command):
     return str(made)
 
 
+def soak():
+    """Returns the path of crates/pim_soak, which runs what the tests and measurements of the manager ask for."""
+    return built("pim_soak", "pim_soak", "rt", "run", "--", "0")
+
+
 def made(folder, *goals):
     """Makes goals in a folder of the repository. Of several that do so at the same time one waits for the other."""
     with open(ROOT / folder / "Makefile", encoding="utf-8") as lock:

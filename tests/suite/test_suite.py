@@ -11,7 +11,7 @@ import re
 
 from tests.cases import Case
 from tests.web import module
-from tests.shared.checks import ROOT, answer, built, compiled, difference, made, program
+from tests.shared.checks import ROOT, answer, built, compiled, difference, made, program, soak
 from tests.shared.suite_texts import (SUITE, accepted, explained, invalid, runs_of_scripts,
                                       scripts, traces)
 
@@ -92,8 +92,8 @@ class Suite(Case):
         self.assertEqual(wrong, [])
 
     def test_each_reason_has_a_text(self):
-        """Each reason that pim_explain has is that of a text, but for the one that says nothing."""
-        code = (ROOT / "crates/pim_explain/src/reason.rt").read_text().partition("pub enum Reason {")[2]
+        """Each reason that pim_text has is that of a text, but for the one that says nothing."""
+        code = (ROOT / "crates/pim_text/src/explaining/reason.rt").read_text().partition("pub enum Reason {")[2]
         said = ["".join(re.split(r'"\s*|\\\n\s*', it)) for it in re.findall(r'#\[error\(\s*"(.*?)"\s*\)\]', code, re.S)]
         forms = {it: re.compile(re.escape(it).replace(r"\{0\}", ".+")) for it in said}
         given = [wanted[2].decode().splitlines()[1].split(": ", 2)[2] for kind in ("pim", "script")
@@ -146,7 +146,7 @@ class Suite(Case):
 
     def test_the_plain_manager(self):
         """The plain manager, which computes each priority from scratch."""
-        self.prints("the plain manager", command(built("pim_plain_judge", "pim_plain_judge", "sh", "-c", "rt run < stdin")))
+        self.prints("the plain manager", command(soak(), "judge"))
 
     def test_libpim_replays(self):
         """The replay through libpim, which asks every getter after each step. It reads valid texts alone."""
