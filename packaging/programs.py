@@ -18,7 +18,7 @@ COMMANDS = ("record/out/pim-facts",)
 COPIED = """
 README.md CHANGELOG.md SECURITY.md VERSION docs examples web/README.md web/inversion.svg
 record/pim-record record/pim-log record/show record/from-lttng record/kernel_text.py record/places_text.py
-record/valgrind.supp record/FORMAT.md record/FACTS-OF-LOGS.md record/INSIDE.md
+record/valgrind.supp record/FORMAT.md record/INSIDE.md
 report
 conform/pim-conform conform/compare.py conform/fuzz.py conform/walk.py
 conform/set conform/performed
