@@ -16,7 +16,7 @@ PAGE, CRATES = ROOT / "web/dist/index.html", ROOT / "launcher/crates"
 COMMANDS = ("record/out/pim-facts",)
 # What is copied as it is.
 COPIED = """
-README.md CHANGELOG.md SECURITY.md VERSION docs examples web/README.md web/inversion.svg
+README.md CHANGELOG.md SECURITY.md VERSION docs examples web/inversion.svg
 record/pim-record record/pim-log record/show record/from-lttng record/kernel_text.py record/places_text.py
 record/valgrind.supp record/FORMAT.md record/INSIDE.md
 report
