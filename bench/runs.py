@@ -241,12 +241,12 @@ def table(head, rows):
     return [line(head), f"|{dashes}|", *map(line, rows)]
 
 
-def publish(part, told, lines, page=PAGE):
+def publish(part, told, lines):
     """Replaces a part of a page with these sentences and lines."""
     sentences = textwrap.fill(". ".join([*told, ""]).rstrip(), 120)
     begin, end = f"<!-- by {part} -->\n", "<!-- end -->\n"
-    before, found, rest = page.read_text().partition(begin)
+    before, found, rest = PAGE.read_text().partition(begin)
     if not found:
-        give_up(2, f"{page} has no line {begin!r}")
+        give_up(2, f"{PAGE} has no line {begin!r}")
     after = rest.partition(end)[2]
-    page.write_text("\n".join([before + begin, sentences, "", *lines, "", end + after]))
+    PAGE.write_text("\n".join([before + begin, sentences, "", *lines, "", end + after]))
