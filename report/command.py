@@ -2,6 +2,7 @@
 import argparse
 import os
 import pathlib
+import re
 import sys
 
 from facts_text import Facts
@@ -101,12 +102,22 @@ def arguments(words):
 
 def spare_sources(given):
     """Refuses to write a file that is read."""
-    sources = [given.facts] if given.facts else [
-        f"{given.recording}{ending}" for ending in ("", ".kernel", ".places")]
+    sources = [given.facts] if given.facts else files_of(given.recording)
     there = [source for source in sources if os.path.exists(source)]
     for file in filter(None, (given.html, given.perfetto, given.trace)):
         if os.path.exists(file) and any(os.path.samefile(file, source) for source in there):
             raise Fault(f"{file} is read, and so isn't written")
+
+
+def files_of(recording):
+    """Returns the files that a recording may have: its own, and those of the programs that it
+    started, RECORDING.PROCESS and RECORDING.PROCESS.COUNT."""
+    folder, name = os.path.split(recording)
+    is_its = re.compile(re.escape(name) + r"(\.\d+){0,2}(\.kernel|\.places)?").fullmatch
+    try:
+        return [os.path.join(folder, file) for file in os.listdir(folder or ".") if is_its(file)]
+    except OSError:  # pim-facts says why
+        return []
 
 
 def window_of(given):
