@@ -30,8 +30,8 @@ export const longestOf = bar =>
 function titleOf(finding, bar, recording) {
   const late = longestOf(bar)
   if (finding.kind !== 'late' || !late) return TITLES[finding.kind](finding)
-  const runner = recording.lanes[late.runner]
-  return `${bar.lane.name} (${bar.level}) held up by ${runner.name} (${runner.getsAt(late.begin)})`
+  const runner = recording.lanes[late.runner], level = bar.lane.highestIn(bar)
+  return `${bar.lane.name} (${level}) held up by ${runner.name} (${runner.getsAt(late.begin)})`
 }
 
 /** Returns where the shown wait was, its callers, and where the mutex was taken or it was ended. */
