@@ -136,6 +136,10 @@ class Facts:
         """Returns the time of a line, which may be earlier than the clock after it."""
         return int(self.words(line)[0])
 
+    def word(self, line):
+        """Returns what a fact says happened, as `waits`."""
+        return self.lines[line - 1].split(b" ", 3)[2]
+
     def places(self, line):
         """Returns the places of a line, the innermost first. There is none without a line."""
         if not line:

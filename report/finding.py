@@ -6,6 +6,7 @@ KINDS = {
     "deadlock": "deadlock",
     "late": "held up",
     "ran": "ran at another level",
+    "gave-up": "gave up",
     "stalled": "worth a look",
     "look": "worth a look",
     "orders": "can deadlock",
@@ -14,7 +15,7 @@ KINDS = {
     "other": "other wait",
 }
 BAD = "deadlock", "late", "ran"          # they make the status 1
-LOOK = "stalled", "look", "orders"
+LOOK = "gave-up", "stalled", "look", "orders"
 TOLERANCE = 50_000  # nanoseconds for which the kernel may run a thread at another level
 
 

@@ -2,6 +2,7 @@
 from bisect import bisect_left
 
 from finding import finding_of, first_of, similar
+from gave_up import GaveUp
 from words import duration
 
 BOUNDS = {"inherit": "bounds it by inheritance", "protect": "bounds it by its ceiling"}
@@ -11,17 +12,20 @@ class MutexWaits:
     def __init__(self, recording):
         self.recording, self.facts, self.names = recording, recording.facts, recording.names
         self.waits, self.dead = recording.rows.waits, self.find_dead()
-        self.late_waits = self.without_links()
+        self.given_up = {wait.line: wait for wait in self.waits if recording.gave_up(wait)}
+        self.late_waits = [
+            wait for wait in self.without_links() if wait.line not in self.given_up]
 
     def findings(self):
-        late = {wait.line for wait in self.late_waits}
-        rest = [wait for wait in self.waits if wait.line not in late and wait.line not in self.dead]
+        told = {*self.dead, *self.given_up, *(wait.line for wait in self.late_waits)}
+        rest = [wait for wait in self.waits if wait.line not in told]
         stalled = [wait for wait in rest if wait.stalled and wait.level and not wait.inverted]
         lines = {wait.line for wait in stalled}
         rest = [wait for wait in rest if wait.line not in lines]
         bounded = [wait for wait in rest if wait.lower and not wait.inverted]
         plain = [wait for wait in rest if not wait.lower or wait.inverted]
         yield from self.late()
+        yield from GaveUp(self).findings()
         yield from self.stalled(stalled)
         yield from self.bounded(bounded)
         yield from self.plain(plain)
@@ -166,10 +170,14 @@ class MutexWaits:
 
         for group in similar(self.recording, waits, lambda wait: 0, size_of):
             found = finding_of(self.recording, "bounded", group, size_of)
-            how = BOUNDS.get(found.protocol,
-                             "passes nothing on, but its owner was urgent enough by another one")
-            found.why = f"{self.names.mutex(group[0].mutex)} {how}"
+            found.why = self.bound(group[0])
             yield found
+
+    def bound(self, wait):
+        """Says what bounds a wait for a lower thread."""
+        how = BOUNDS.get(self.facts.mutexes[wait.mutex].protocol,
+                         "passes nothing on, but its owner was urgent enough by another one")
+        return f"{self.names.mutex(wait.mutex)} {how}"
 
     def plain(self, waits):
         """Waits for threads that are as urgent, or more, and links of chains."""
@@ -178,7 +186,12 @@ class MutexWaits:
 
         for group in similar(self.recording, waits, lambda wait: 0, size_of):
             found = finding_of(self.recording, "wait", group, size_of)
-            found.why = ("it is a part of how another thread was held up" if group[0].inverted
-                         else "the thread that it waited for was no less urgent" if group[0].owner
-                         else "the mutex was free: its next owner was quicker")
+            found.why = self.plainly(group[0])
             yield found
+
+    @staticmethod
+    def plainly(wait):
+        """Says why a plain wait took time."""
+        return ("it is a part of how another thread was held up" if wait.inverted
+                else "the thread that it waited for was no less urgent" if wait.owner
+                else "the mutex was free: its next owner was quicker")

@@ -37,6 +37,33 @@ class Recording:
         later = changes[bisect_right(changes, (wait.line, 101)):bisect_left(changes, (until, 0))]
         return max([wait.level, *(level for _, level in later)])
 
+    def wait_at(self, thread, line):
+        """Returns the wait for a mutex that a thread is in after a line, or None."""
+        waits, lines = self.waits_of.get(thread, ((), ()))
+        wait = waits[at - 1] if (at := bisect_right(lines, line)) else None
+        return wait if wait and (wait.until > line or not wait.until) else None
+
+    def gave_up(self, wait):
+        """Returns whether a wait for a mutex ended without it, and doesn't go on at that time."""
+        if not wait.until or self.facts.word(wait.until) != b"gave-up":
+            return False
+        waits, lines = self.waits_of[wait.thread]
+        later = waits[bisect_right(lines, wait.line):][:1]
+        return not any((one.mutex, one.begin) == (wait.mutex, wait.end) for one in later)
+
+    def cycle_before(self, wait):
+        """Returns the waits of the deadlock that the end of a wait ended, that one first, or []."""
+        line, cycle = wait.until - 1, [wait]
+        while len(cycle) < LONGEST:
+            owner = self.facts.owner(cycle[-1].mutex, line)
+            if owner == wait.thread:
+                return cycle
+            following = self.wait_at(owner, line)
+            if not following or following in cycle:
+                return []
+            cycle.append(following)
+        return []
+
     def where(self, line):
         """Returns the place of a line as 'mix.c:17 (high)', or an empty text."""
         return place_and_function(self.facts.place(line))

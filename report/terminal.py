@@ -11,6 +11,7 @@ TITLES = {
     "deadlock": "DEADLOCK at the end of the recording",
     "late": "HELD UP by less urgent threads, and nothing bounded it (priority inversion)",
     "ran": "RAN at another level than its mutexes give",
+    "gave-up": "GAVE UP: waits for a mutex that ended without it, as by a time-out",
     "stalled": "WORTH A LOOK: waits for a mutex whose owner waited for something else meanwhile",
     "look": "WORTH A LOOK: waits that a less urgent thread ended, where nothing passes a priority"
             " on",
@@ -19,9 +20,8 @@ TITLES = {
     "wait": "PLAIN WAITS: for threads that are as urgent, or more",
     "other": "OTHER WAITS",
 }
-FOR = {"late": "held up by", "stalled": "for", "bounded": "for", "wait": "for", "look": "until",
-       "other": "until"}
-OF_MUTEXES = "late", "stalled", "bounded", "wait"
+FOR = {"late": "held up by", "look": "until", "other": "until"}  # of other kinds: for
+OF_MUTEXES = "late", "gave-up", "stalled", "bounded", "wait"
 IN_A_LINE = "bounded", "wait", "other"  # kinds that have no details
 
 
@@ -111,7 +111,7 @@ class Terminal:
         """Says which thread waited for which, and at what."""
         said = self.names.threads(one.who, 2)
         if one.by:
-            said += f" {FOR[one.kind]} {self.names.threads(one.by, 2)}"
+            said += f" {FOR.get(one.kind, 'for')} {self.names.threads(one.by, 2)}"
         if one.what:
             said += f" at {one.what}" if one.kind in OF_MUTEXES else f" ({one.what})"
         if one.kind in IN_A_LINE and one.where:

@@ -6,6 +6,7 @@ const TITLES = {
   deadlock: ({ lanes, who }) => `Deadlock of ${lanes.length > 1 ? `${lanes.length} threads` : who}`,
   late: it => `${it.who} held up by ${it.by}`,
   ran: it => `${it.who} ran at another level`,
+  'gave-up': it => `${it.who} waited for ${it.what}, and gave up`,
   stalled: it => `${it.who} waited for ${it.by}, which waited for something else`,
   look: it => `${it.who} waited for ${it.what}`,
   orders: it => `${it.what} can deadlock`,
