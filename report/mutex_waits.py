@@ -1,7 +1,8 @@
 """Findings of waits for mutexes: held up, stalled, bounded and plain ones."""
 from bisect import bisect_left
 
-from finding import finding_of, first_of, similar
+from asleep import Asleep
+from finding import TOLERANCE, finding_of, first_of, similar
 from gave_up import GaveUp
 from words import duration
 
@@ -13,13 +14,15 @@ class MutexWaits:
         self.recording, self.facts, self.names = recording, recording.facts, recording.names
         self.waits, self.dead = recording.rows.waits, self.find_dead()
         self.given_up = {wait.line: wait for wait in self.waits if recording.gave_up(wait)}
+        self.asleep = Asleep(recording)
         self.late_waits = [
             wait for wait in self.without_links() if wait.line not in self.given_up]
 
     def findings(self):
         told = {*self.dead, *self.given_up, *(wait.line for wait in self.late_waits)}
         rest = [wait for wait in self.waits if wait.line not in told]
-        stalled = [wait for wait in rest if wait.stalled and wait.level and not wait.inverted]
+        stalled = [wait for wait in rest if wait.level and not wait.inverted and (
+            wait.stalled or self.asleep.during(wait) > TOLERANCE)]
         lines = {wait.line for wait in stalled}
         rest = [wait for wait in rest if wait.line not in lines]
         bounded = [wait for wait in rest if wait.lower and not wait.inverted]
@@ -87,6 +90,8 @@ class MutexWaits:
             found.meanwhile = sorted(worst.meanwhile, key=lambda one: -one.time)
             if worst.stalled:
                 found.lines.append(f"for {duration(worst.stalled)} of it {self.held(worst)}")
+            if self.asleep.during(worst) > TOLERANCE:
+                found.lines.append(self.asleep.said(worst) + ", which no protocol shortens")
             yield found
 
     @staticmethod
@@ -135,21 +140,30 @@ class MutexWaits:
     # ---- the others
 
     def stalled(self, waits):
-        """Waits whose runner waited for something else meanwhile."""
+        """Waits whose runner waited for something else, or slept, meanwhile."""
         def size_of(wait):
-            return wait.stalled
+            return wait.stalled + self.asleep.during(wait)
 
         for group in similar(self.recording, waits, lambda wait: 0, size_of):
             found, worst = finding_of(self.recording, "stalled", group, size_of), group[0]
             stalls = sorted(((wait, stall) for wait in group for stall in wait.stalls),
                             key=lambda one: -one[1].time)
             found.by = first_of((stall.runner, self.facts.level(stall.runner, wait.line))
-                                for wait, stall in stalls)
-            what = self.names.the_object(worst.worst_stall.object)
-            found.why = self.held(worst)
-            held = self.held_mutex(worst) or "a mutex"
-            found.advice = f"don't wait for {what} while owning {held}"
+                                for wait, stall in stalls) or found.by
+            if self.asleep.during(worst) > TOLERANCE:
+                found.lines.append(self.asleep.said(worst))
+            found.why, found.advice = self.idle(worst)
             yield found
+
+    def idle(self, wait):
+        """Says what the runner of a wait did in place of running, and what to do."""
+        if wait.stalled < self.asleep.during(wait):
+            mutex = self.names.mutex(wait.mutex)
+            return (f"{self.names.thread(wait.owner)} slept while it owned {mutex}",
+                    f"don't sleep, or read and write files, while owning {mutex}")
+        what = self.names.the_object(wait.worst_stall.object)
+        held = self.held_mutex(wait) or "a mutex"
+        return self.held(wait), f"don't wait for {what} while owning {held}"
 
     def held_mutex(self, wait):
         """Returns the mutex that the runner of a stalled wait held, or an empty text."""

@@ -12,7 +12,7 @@ TITLES = {
     "late": "HELD UP by less urgent threads, and nothing bounded it (priority inversion)",
     "ran": "RAN at another level than its mutexes give",
     "gave-up": "GAVE UP: waits for a mutex that ended without it, as by a time-out",
-    "stalled": "WORTH A LOOK: waits for a mutex whose owner waited for something else meanwhile",
+    "stalled": "WORTH A LOOK: waits for a mutex whose owner slept or waited for something else",
     "look": "WORTH A LOOK: waits that a less urgent thread ended, where nothing passes a priority"
             " on",
     "orders": "CAN DEADLOCK: mutexes that are locked in both orders (lock-order inversion, AB-BA)",

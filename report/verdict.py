@@ -154,7 +154,7 @@ class Verdict:
         if found.kind == "stalled":
             return (f"{self.waiter(worst)} waited {duration(worst.lasted)}"
                     f"{self.short(found.where)} for {self.names.mutex(worst.mutex)}, for"
-                    f" {duration(worst.stalled)} of it because {found.why}")
+                    f" {duration(found.worst)} of it because {found.why}")
         who, gave = self.names.at(worst.thread, worst.level), self.findings.others.gave(worst)
         return (f"{who} waited {duration(worst.lasted)}{self.short(found.where)} for {found.what},"
                 f" until {self.names.at(worst.by, worst.by_level)} {gave}")

@@ -8,6 +8,7 @@ import zlib
 from collections import Counter, defaultdict
 
 import pack
+from asleep import Sleeps
 from bounds import Bounds
 from checks import ROOT, check
 from facts_text import Facts
@@ -40,6 +41,7 @@ mutex 2 inherit b
 50 2 released 2
 50 end
 """
+READ = "waits", "blocks", "granted", "gave-up", "resumes", "on", "off", "lost"
 TIME = r"([\d.,]+ (?:s|ms|us|ns))"
 PAGE = (ROOT / "docs/REPORT.md").read_text()
 
@@ -319,6 +321,27 @@ def hostile(found):
     is_kept = data["threads"][0]["name"] == "<!--<script>" and data["title"] == "<b>&'\""
     check("names like tags", None if is_kept and "<!--" not in page and "<b>" not in page.partition(
         "<main")[0].replace("<b>&lt;b&gt;", "") and script else "they are parts of the page")
+
+
+def sleeps(found):
+    """By the plain definitions threads were asleep for as long. Time passes by the lines read."""
+    wrong, many = [], 0
+    for seed, (text, one, _) in enumerate(found):
+        wanted, world, now = Counter(), World(), 0
+        for line in [*map(line_of, lines_of(text)[1:]), None]:
+            if line is None or line.what in READ:
+                later = max(now, line.time if line else one.rows.ended)
+                for thread, is_ready in world.off.items():
+                    if not is_ready and thread not in {**world.awaits, **world.blocked}:
+                        wanted[thread] += later - now
+                now = later
+            if line:
+                world.apply(line)
+        known = Sleeps(one.facts, one.rows.ended)
+        got = Counter({thread: known.between(thread, 0, one.rows.ended) for thread in known.of})
+        many += len(got)
+        wrong += [] if got == +wanted else [str(seed)]
+    check("who slept, and for how long", ", ".join(wrong[:5]) or (None if many > 50 else str(many)))
 
 
 def times_of(changes, first, ended):
