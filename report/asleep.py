@@ -81,7 +81,7 @@ class Asleep:
         thread, mutex = self.owner(wait)
         lines, owners = self.facts.owners_of(mutex)
         at = owners.index(thread, bisect_right(lines, wait.line) - 1)
-        return [self.facts.time(line) for line in lines[at:at + 2]] + [self.ended] * (
+        return [self.facts.clock(line) for line in lines[at:at + 2]] + [self.ended] * (
             at + 1 == len(lines))
 
     def during(self, wait):

@@ -29,6 +29,8 @@ that is.
   -H, --html FILE      write a page too, which opens from the disk and needs no network
   -j, --json           print JSON in place of the text; docs/REPORT.md has its keys
   -a, --all            print all findings of each kind, and keep all facts in the page
+      --all-mutexes    print a table of all mutexes too: locks, how many had to wait, how long one
+                       was owned, waits, and where they were. JSON has it, too
   -n, --top N          print at most N findings of each kind: 10 if it isn't given
   -t, --thread NAME    show only what a thread has a part in. A number will do, too
   -m, --mutex NAME     show only what is of a mutex, or of a semaphore and the like
@@ -79,6 +81,7 @@ def arguments(words):
         parser.add_argument(short, f"--{name}")
     for short, name in (("-j", "json"), ("-a", "all")):
         parser.add_argument(short, f"--{name}", action="store_true")
+    parser.add_argument("--all-mutexes", action="store_true")
     parser.add_argument("-n", "--top", type=number_of)
     parser.add_argument("-s", "--since", type=time_of, default=0)
     for name in ("from", "to"):
@@ -164,10 +167,10 @@ def report(given):
 def text_of(given, findings):
     if given.json:
         from json_report import json_of
-        return json_of(findings)
+        return json_of(findings, given.all_mutexes)
     most = 10**9 if given.all else given.top or MOST
     is_coloured = sys.stdout.isatty() and "NO_COLOR" not in os.environ
-    return Terminal(findings, is_coloured, most).text()
+    return Terminal(findings, is_coloured, most, given.all_mutexes).text()
 
 
 def write_page(given, findings):

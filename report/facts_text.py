@@ -34,7 +34,7 @@ class Facts:
             self.lines.pop()
         self.threads, self.mutexes, self.objects, self.unseen = {}, {}, {}, []
         self.levels, self.ceilings, self.lost, declared = {}, {}, [], 0
-        self.owners = None
+        self.owners, self.clocks = None, None
         for word, declare in (("thread", self.thread), ("mutex", self.mutex),
                               ("object", self.object), ("unseen", self.is_unseen)):
             for _, line in self.lines_with(f"\n{word} ".encode()):
@@ -135,6 +135,17 @@ class Facts:
     def time(self, line):
         """Returns the time of a line, which may be earlier than the clock after it."""
         return int(self.words(line)[0])
+
+    def clock(self, line):
+        """Returns the greatest time up to a line. Lines that go back are looked for once."""
+        if self.clocks is None:
+            self.clocks, now = {}, 0
+            for number, text in enumerate(self.lines, 1):
+                time = int(text.partition(b" ")[0]) if text[:1] <= b"9" else now
+                if time < now:
+                    self.clocks[number] = now
+                now = max(now, time)
+        return self.clocks.get(line) or self.time(line)
 
     def word(self, line):
         """Returns what a fact says happened, as `waits`."""

@@ -3,6 +3,7 @@ from bisect import bisect_left, bisect_right
 from heapq import nlargest
 
 from choice import Choice
+from mutex_table import MutexTable
 from names import Names
 from words import place_and_function, without_function
 
@@ -63,6 +64,10 @@ class Recording:
                 return []
             cycle.append(following)
         return []
+
+    def mutex_table(self):
+        """Returns how often and for how long each mutex was owned and waited for."""
+        return MutexTable(self).all()
 
     def where(self, line):
         """Returns the place of a line as 'mix.c:17 (high)', or an empty text."""

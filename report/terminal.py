@@ -28,8 +28,8 @@ IN_A_LINE = "bounded", "wait", "other"  # kinds that have no details
 class Terminal:
     """Lays out findings as lines."""
 
-    def __init__(self, findings, is_coloured=False, most=MOST):
-        self.findings, self.names = findings, findings.names
+    def __init__(self, findings, is_coloured=False, most=MOST, has_table=False):
+        self.findings, self.names, self.has_table = findings, findings.names, has_table
         self.is_coloured, self.most = is_coloured, most
         self.lines, self.advised = [], set()
 
@@ -59,6 +59,8 @@ class Terminal:
             self.section(kind, found.of(kind))
         self.ownerships()
         self.bounds()
+        if self.has_table:
+            self.mutex_table()
         self.title("NOT LOOKED AT")
         for line in found.unseen():
             self.put(line, 2)
@@ -144,6 +146,26 @@ class Terminal:
             self.put(f"=> {one.advice}", indent, 3, style="strong")
 
     # ---- more
+
+    def mutex_table(self):
+        """Lists all mutexes that were locked or waited for, and where threads waited for them."""
+        self.title("ALL MUTEXES, those first for which threads waited longest in all")
+        heads = "locks", "waited", "mean hold", "longest", "p99 wait", "waits in all"
+        head = " ".join(map("{:>9}".format, heads[:-1])) + f" {heads[-1]:>12}  mutex"
+        self.lines.append(self.styled("soft", head))
+        for use in self.findings.recording.mutex_table():
+            share = f"{100 * use.contended / max(1, use.locks):.1f} %"
+            times = [duration(use.mean), duration(use.longest), *(
+                duration(time) if use.waits else "-" for time in (use.p99, use.total))]
+            figures = " ".join(map("{:>9}".format, [f"{use.locks:,}", share, *times[:-1]]))
+            self.put(f"{figures} {times[-1]:>12}  {self.names.mutex(use.mutex)}"
+                     f"{self.names.origin(use.mutex)}", 0, 66)
+            for one in use.callers[:3]:
+                where = one.place or "an unknown place"
+                waits = f"{count(one.waits, 'wait')} of {duration(one.total)}"
+                self.put(f"{waits} in all at {where}", 11, style="soft")
+            if len(use.callers) > 3:
+                self.put(f"and waits at {count(len(use.callers) - 3, 'more place')}", 11)
 
     def ownerships(self):
         found = self.findings.owned()

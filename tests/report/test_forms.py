@@ -68,7 +68,7 @@ def documented():
 
 def keys(found):
     """Each key of the JSON is on the page, and each key of a table there is in some JSON."""
-    used = {key for one in found for key in keys_in(json.loads(json_of(one)))}
+    used = {key for one in found for key in keys_in(json.loads(json_of(one, True)))}
     listed, named = documented()
     check("each key is on the page", ", ".join(sorted(used - named)))
     check("each key of the page is there", ", ".join(sorted(listed - used)))
@@ -342,6 +342,47 @@ def sleeps(found):
         many += len(got)
         wrong += [] if got == +wanted else [str(seed)]
     check("who slept, and for how long", ", ".join(wrong[:5]) or (None if many > 50 else str(many)))
+
+
+def table_wanted(text, listed):
+    """Returns by mutex locks, those that waited, how long it was owned, and its waits."""
+    locks, owned, world = Counter(), Counter(), World()
+    granted, waits = Counter(), defaultdict(list)
+    for line in map(line_of, lines_of(text)[1:]):
+        stretch = world.time_passes(line)
+        owned.update({mutex: stretch for mutex in world.owner})
+        locks[line.mutex] += line.what in ("granted", "took") and line.mutex not in world.owner
+        world.apply(line)
+    for wait in listed.waits:
+        granted[wait.mutex] += text.split(b"\n")[wait.until - 1].split()[2:3] == [b"granted"]
+        waits[wait.mutex].append(wait.lasted)
+    return {mutex: (locks[mutex], granted[mutex], owned[mutex], sorted(waits[mutex]))
+            for mutex in world.mutexes if locks[mutex] or waits[mutex]}
+
+
+def mutex_tables(found):
+    """The table of all mutexes is what a plain count gives, in the text as in the JSON."""
+    wrong = []
+    for seed, (text, one, out) in enumerate(found):
+        wanted = table_wanted(text, Rows.read(out))
+        table = json.loads(json_of(one, True))["mutex_table"]
+        for use in table:
+            locks, granted, owned, waits = wanted.pop(use["mutex"], (0, 0, 0, []))
+            last = max([at for at in range(len(waits)) if 100 * at < 99 * len(waits)], default=0)
+            same = (use["locks"], use["contended"], use["waits"], use["total"]) == (
+                locks, granted, len(waits), sum(waits))
+            same = same and use["p99"] == (waits or [0])[last]
+            sums = [sum(it[key] for it in use["callers"]) for key in ("waits", "total")]
+            same = same and sums == [use["waits"], use["total"]]
+            near = abs(use["mean"] * max(1, locks) - owned) < max(1, locks)
+            wrong += [] if same and near else [f"{seed}: {use['mutex']}"]
+        said = Terminal(one, has_table=True).text().partition("\nALL MUTEXES")[2]
+        lines = re.findall(r"(?m)^ *([\d,]+) +([\d.]+) % +\S+ \S+ +\S+ \S+", said)
+        same = [(f"{use['locks']:,}", f"{100 * use['contended'] / max(1, use['locks']):.1f}")
+                for use in table] == lines
+        is_sorted = table == sorted(table, key=lambda use: -use["total"])
+        wrong += [] if same and is_sorted and not wanted else [f"{seed}: text"]
+    check("the table of all mutexes", ", ".join(wrong[:5]))
 
 
 def times_of(changes, first, ended):

@@ -113,9 +113,9 @@ def options():
     _, every, _ = said("--facts", pool, "--all")
     check("--all", difference((every,), (pool.with_suffix(".txt").read_text(),)))
     status, help_text, _ = said("--help", findings=None)
-    shown = sorted(set(re.findall(r"--[a-z]+", help_text)))
-    taken = sorted({"--help", "--version", *(f"--{one}" for one in vars(arguments(["x"]))
-                                             if one != "recording")})
+    shown = sorted(set(re.findall(r"--[a-z-]+", help_text)))
+    options = [f"--{one}".replace("_", "-") for one in vars(arguments(["x"])) if one != "recording"]
+    taken = sorted({"--help", "--version", *options})
     check("--help", difference((status, shown), (0, taken)))
     check("--help names the tolerance", None if "50 us" in help_text else "it doesn't")
     version = (ROOT / "VERSION").read_text().strip()
@@ -423,6 +423,11 @@ def forms():
     _, text, _ = said("--facts", CHAIN, "--json")
     wanted = test_forms.json_of(found_in(CHAIN.read_bytes())[0])
     check("--json", difference((text,), (wanted,)))
+    _, table, _ = said("--facts", CHAIN, "--all-mutexes")
+    _, json_table, _ = said("--facts", CHAIN, "--all-mutexes", "--json")
+    found = found_in(CHAIN.read_bytes())[0]
+    check("--all-mutexes", difference((table, json_table), (
+        Terminal(found, has_table=True).text(), test_forms.json_of(found, True))))
     test_forms.pages(every)
     test_forms.stretches(random_findings())
     test_forms.sleeps(random_findings())
@@ -431,6 +436,7 @@ def forms():
     test_forms.far_ways()
     facts, listed = test_browser.large(200)
     long = Findings(Recording(Facts(facts), Rows.read(listed)))
+    test_forms.mutex_tables([*random_findings(), (facts, *found_in(facts))])
     test_forms.windows([*random_findings()[:30], (facts, long, listed)])
     test_forms.network(test_forms.page_of("chain", found_in(CHAIN.read_bytes())[0]))
     test_forms.hostile(found_in(
