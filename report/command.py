@@ -144,12 +144,24 @@ def read(given):
         raise Fault(f"{name}: {fault.strerror}") from fault
 
 
+def began_of(recording):
+    """Returns when a recording began, in nanoseconds since 1970, as the log's header has it."""
+    try:
+        with open(recording or os.devnull, "rb") as log:
+            header = log.read(64)
+    except OSError:  # as where only the kernel's events were recorded
+        return None
+    is_known = header[:6] == b"pimlog" and len(header) == 64
+    return int.from_bytes(header[56:], sys.byteorder) if is_known else None
+
+
 def report(given):
     """Writes what is asked for. Returns the status."""
     data = read(given)
     rows = rows_of(data, given.findings)
     with Progress("making the report"):
-        recording = Recording(Facts(data), Rows.read(rows), given.thread, given.mutex, given.since)
+        recording = Recording(Facts(data), Rows.read(rows), given.thread, given.mutex, given.since,
+                              began_of(given.recording))
         findings = Findings(recording)
         if given.html:
             write_page(given, findings)

@@ -19,7 +19,8 @@ class JsonReport:
             "verdict": Verdict(self.findings).sentences(),
             "shown": self.recording.choice.said(), "unseen": self.findings.unseen(),
             "recording": {
-                "lasted": every.ended, "lines": every.lines, "facts": self.facts.count,
+                "began": self.recording.began, "lasted": every.ended,
+                "lines": every.lines, "facts": self.facts.count,
                 "waits": len(every.waits), "has_end": self.facts.has_end,
                 "inverted": sum(wait.inverted > 0 for wait in every.waits),
                 "deadlocks": len(every.deadlocks),

@@ -13,10 +13,11 @@ LONGEST, MOST_GRANTS, MOST_WAITS = 100, 50, 20
 
 
 class Recording:
-    """`rows` are those that are chosen; `all_rows` are all."""
+    """`rows` are those that are chosen; `all_rows` are all. It `began` so many nanoseconds after
+    1970, if that is known."""
 
-    def __init__(self, facts, rows, thread=None, mutex=None, since=0):
-        self.facts, self.all_rows, self.names = facts, rows, Names(facts)
+    def __init__(self, facts, rows, thread=None, mutex=None, since=0, began=None):
+        self.facts, self.all_rows, self.names, self.began = facts, rows, Names(facts), began
         self.choice = Choice(self, thread, mutex, since)
         self.rows = rows if self.choice.is_all else self.choice.of(rows)
         self.waits_of = self.by_thread(rows.waits)

@@ -1,5 +1,6 @@
 """How a report says numbers, times and lists."""
 import re
+import time
 
 UNITS = ((10**9, "s"), (10**6, "ms"), (10**3, "us"))
 
@@ -20,6 +21,13 @@ def duration(nanoseconds):
 def moment(nanoseconds):
     """Returns a time since the recording began, as '0.005805 s'."""
     return f"{nanoseconds / 10**9:.6f} s"
+
+
+def date(nanoseconds):
+    """Returns a time since 1970, as '2026-12-01 11:20:33.123 +0000' where the program runs."""
+    seconds, rest = divmod(nanoseconds, 10**9)
+    shown = time.localtime(seconds)
+    return time.strftime(f"%Y-%m-%d %H:%M:%S.{rest // 10**6:03} %z", shown)
 
 
 def count(number, one, more=None):

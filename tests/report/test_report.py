@@ -104,6 +104,17 @@ def options():
           difference(said("--facts", "-", text=chain), (1, wanted, "")))
     check("a recording, by its converter",
           difference(said(CHAIN, "--converter", "cat"), (1, wanted, "")))
+    with tempfile.TemporaryDirectory() as folder:
+        log = pathlib.Path(folder, "run")
+        began = (1_700_000_000_123_456_789).to_bytes(8, sys.byteorder)
+        log.write_bytes(b"pimlog" + bytes(50) + began)
+        words = [log, "--converter", f"sh -c 'cat {CHAIN}'"]
+        env = {**os.environ, "TZ": "UTC0"}
+        _, text, _ = said(*words, env=env)
+        is_said = " from 2023-11-14 22:13:20.123 +0000 on, " in " ".join(text.split())
+        _, text, _ = said(*words, "--json", env=env)
+        is_known = '"began": 1700000000123456789,' in text
+        check("when it began", None if is_said and is_known else "it isn't said")
     check("short options", difference(said("-f", CHAIN, "-n", 10), (1, wanted, "")))
     _, few, _ = said("--facts", pool, "--top", 1)
     late = lines_between(few, "HELD UP")
@@ -358,7 +369,8 @@ def counted():
         is_bad = bool(inverted or listed.deadlocks)
         if is_bad != bool(found.of("late", "deadlock")) or found.status < is_bad:
             wrong.append(f"{seed}: status")
-        if sorted(given_up) != sorted(wait.line for one in found.of("gave-up") for wait in one.waits):
+        told = [wait.line for one in found.of("gave-up") for wait in one.waits]
+        if sorted(given_up) != sorted(told):
             wrong.append(f"{seed}: those that gave up")
     check("each wait is in a finding, and the status is that of the rows", ", ".join(wrong))
     check("some waits are given up", None if many > 50 else str(many))
