@@ -16,7 +16,7 @@ IS_PLACE = re.compile(r".*(:\d+|\+0x[0-9a-f]+)(\([^()]*\))?$|0x[0-9a-f]+$")
 # After how many words a line of this kind has its places.
 WORDS_BEFORE = {b"ceiling": 5, b"off": 4}
 HAVE_FOUR = [b"waits"], [b"granted"], [b"took"]
-OF_OWNERS = [b"granted"], [b"took"], [b"released"]
+OF_OWNERS = b"granted", b"took", b"released"
 
 
 def last_of(changes, line, first):
@@ -175,16 +175,16 @@ class Facts:
         found, times = {}, {}
         for number, line in enumerate(self.lines, 1):
             words = line.split(b" ", 4)
-            if words[2:3] not in OF_OWNERS or line[:1] > b"9":
+            if len(words) < 4 or words[2] not in OF_OWNERS or line[:1] > b"9":
                 continue
-            mutex, is_lock = int(words[3]), words[2] != b"released"
+            mutex = words[3]
             before = times.get(mutex, 0)
-            times[mutex] = before + (1 if is_lock else -1)
-            if before == 0 or times[mutex] == 0:
-                lines, owners = found.setdefault(mutex, ([0], [0]))
+            times[mutex] = after = before + (-1 if words[2] == b"released" else 1)
+            if not before or not after:
+                lines, owners = found.get(mutex) or found.setdefault(mutex, ([0], [0]))
                 lines.append(number)
-                owners.append(int(words[1]) if is_lock else 0)
-        return found
+                owners.append(after and int(words[1]))
+        return {int(mutex): changes for mutex, changes in found.items()}
 
     def owners_of(self, mutex):
         """They are read once, if they are needed."""

@@ -70,7 +70,7 @@ def similar(recording, waits, blamed_of, size_of):
     origins = {mutex.number: (mutex.protocol, mutex.place or mutex.number)
                for mutex in facts.mutexes.values()}
     for wait in waits:
-        where = facts.place(wait.line) or recording.names.stem(wait.thread)
+        where = facts.place(wait.line) or recording.names.stems[wait.thread]
         key = where, origins[wait.mutex], origins.get(blamed_of(wait))
         groups.setdefault(key, []).append(wait)
     return [sorted(group, key=size_of, reverse=True) for group in groups.values()]

@@ -35,9 +35,10 @@ class Recording:
     def level_of(self, wait):
         """Returns the highest level that a thread had while it waited for a mutex."""
         changes = self.facts.levels.get(wait.thread, ())
-        until = wait.until or self.all_rows.lines + 1
-        later = changes[bisect_right(changes, (wait.line, 101)):bisect_left(changes, (until, 0))]
-        return max([wait.level, *(level for _, level in later)])
+        level, at = wait.level, bisect_right(changes, (wait.line, 101))
+        while at < len(changes) and not 0 < wait.until < changes[at][0]:
+            level, at = max(level, changes[at][1]), at + 1
+        return level
 
     def wait_at(self, thread, line):
         """Returns the wait for a mutex that a thread is in after a line, or None."""

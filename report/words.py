@@ -1,4 +1,5 @@
 """How a report says numbers, times and lists."""
+import functools
 import re
 import time
 
@@ -58,6 +59,7 @@ def upper_first(text):
     return text[:1].upper() + text[1:]
 
 
+@functools.lru_cache(maxsize=None)
 def place_and_function(place):
     """Returns 'mix.c:17(high)' as 'mix.c:17 (high)'."""
     return re.sub(r"(?<=\S)\(", " (", place, count=1)
