@@ -2,7 +2,7 @@
 from bisect import bisect_left
 
 from asleep import Asleep
-from finding import TOLERANCE, finding_of, first_of, similar
+from finding import TOLERANCE, findings_of, first_of
 from gave_up import GaveUp
 from words import duration
 
@@ -76,23 +76,21 @@ class MutexWaits:
 
     def late(self):
         """Waits that are inverted: the thread that had to run wasn't urgent enough."""
-        def size_of(wait):
-            return wait.inverted
+        return findings_of(self.recording, "late", self.late_waits, lambda wait: wait.inverted,
+                           self.late_details, self.blamed_of, self.advice)
 
-        def blamed_of(wait):
-            return wait.worst_part.mutex
+    @staticmethod
+    def blamed_of(wait):
+        return wait.worst_part.mutex
 
-        for group in similar(self.recording, self.late_waits, blamed_of, size_of):
-            found, worst = finding_of(self.recording, "late", group, size_of), group[0]
-            found.by = self.runners(group)
-            found.why = self.reason(worst)
-            found.advice = self.advice(group, list(dict.fromkeys(map(blamed_of, group))))
-            found.meanwhile = sorted(worst.meanwhile, key=lambda one: -one.time)
-            if worst.stalled:
-                found.lines.append(f"for {duration(worst.stalled)} of it {self.held(worst)}")
-            if self.asleep.during(worst) > TOLERANCE:
-                found.lines.append(self.asleep.said(worst) + ", which no protocol shortens")
-            yield found
+    def late_details(self, found):
+        group, worst = found.waits, found.waits[0]
+        found.by, found.why = self.runners(group), self.reason(worst)
+        found.meanwhile = sorted(worst.meanwhile, key=lambda one: -one.time)
+        if worst.stalled:
+            found.lines.append(f"for {duration(worst.stalled)} of it {self.held(worst)}")
+        if self.asleep.during(worst) > TOLERANCE:
+            found.lines.append(self.asleep.said(worst) + ", which no protocol shortens")
 
     @staticmethod
     def runners(group):
@@ -126,8 +124,9 @@ class MutexWaits:
             for mutex, owner in way)
         return f"{self.names.thread(wait.thread)} {chain}; {passes}"
 
-    def advice(self, group, blamed):
-        """Says what to write at the mutexes that are to blame."""
+    def advice(self, group):
+        """Says what to write at the mutexes that are to blame for some inverted waits."""
+        blamed = list(dict.fromkeys(map(self.blamed_of, group)))
         first, origin = blamed[0], self.names.origin(blamed[0])
         mutex, name = self.facts.mutexes[first], f"{self.names.mutex(first)}{origin}"
         comma = "," if origin else ""
@@ -144,16 +143,17 @@ class MutexWaits:
         def size_of(wait):
             return wait.stalled + self.asleep.during(wait)
 
-        for group in similar(self.recording, waits, lambda wait: 0, size_of):
-            found, worst = finding_of(self.recording, "stalled", group, size_of), group[0]
-            stalls = sorted(((wait, stall) for wait in group for stall in wait.stalls),
-                            key=lambda one: -one[1].time)
-            found.by = first_of((stall.runner, self.facts.level(stall.runner, wait.line))
-                                for wait, stall in stalls) or found.by
-            if self.asleep.during(worst) > TOLERANCE:
-                found.lines.append(self.asleep.said(worst))
-            found.why, found.advice = self.idle(worst)
-            yield found
+        return findings_of(self.recording, "stalled", waits, size_of, self.stalled_details)
+
+    def stalled_details(self, found):
+        worst = found.waits[0]
+        stalls = sorted(((wait, stall) for wait in found.waits for stall in wait.stalls),
+                        key=lambda one: -one[1].time)
+        found.by = first_of((stall.runner, self.facts.level(stall.runner, wait.line))
+                            for wait, stall in stalls) or found.by
+        if self.asleep.during(worst) > TOLERANCE:
+            found.lines.append(self.asleep.said(worst))
+        found.why, found.advice = self.idle(worst)
 
     def idle(self, wait):
         """Says what the runner of a wait did in place of running, and what to do."""
@@ -179,13 +179,10 @@ class MutexWaits:
 
     def bounded(self, waits):
         """Waits for lower threads that a protocol bounds."""
-        def size_of(wait):
-            return wait.lower
+        def details(found):
+            found.why = self.bound(found.waits[0])
 
-        for group in similar(self.recording, waits, lambda wait: 0, size_of):
-            found = finding_of(self.recording, "bounded", group, size_of)
-            found.why = self.bound(group[0])
-            yield found
+        return findings_of(self.recording, "bounded", waits, lambda wait: wait.lower, details)
 
     def bound(self, wait):
         """Says what bounds a wait for a lower thread."""
@@ -195,13 +192,10 @@ class MutexWaits:
 
     def plain(self, waits):
         """Waits for threads that are as urgent, or more, and links of chains."""
-        def size_of(wait):
-            return wait.lasted
+        def details(found):
+            found.why = self.plainly(found.waits[0])
 
-        for group in similar(self.recording, waits, lambda wait: 0, size_of):
-            found = finding_of(self.recording, "wait", group, size_of)
-            found.why = self.plainly(group[0])
-            yield found
+        return findings_of(self.recording, "wait", waits, lambda wait: wait.lasted, details)
 
     @staticmethod
     def plainly(wait):
