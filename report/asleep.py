@@ -1,57 +1,51 @@
 """For how long a thread slept while it owned a mutex: in nanosleep, at a page fault, for a disk.
 
-A thread sleeps from an `off asleep` to its next `on` or `off`, or to a `lost`, while it neither
-awaits a mutex nor is blocked at an object: rows say those. Only the kernel's events have that.
+A thread sleeps from an `off asleep` to its next `on` or `off ready`. Where it does something first,
+or events are lost, it isn't known when it woke: that sleep doesn't count, and neither does one as
+it awaits a mutex or is blocked at an object, which rows say. Only the kernel's events have this.
 """
 import re
 from bisect import bisect_left, bisect_right
 
 from words import duration
 
-SAYS = re.compile(rb"(?m)^(\d+) (?:lost|(\d+) (?:"
-                  rb"(off asleep)|(on|off)|(waits|blocks)|granted|gave-up|resumes))(?: |$)")
+SAYS = re.compile(rb"(?m)^(\d+) (?:lost|(\d+) (?:(off asleep)|(on|off ready)|"
+                  rb"(waits|blocks)|granted|took|gave-up|released|resumes))(?: |$)")
 
 
 class Sleeps:
     """`of` has by thread when its sleeps began and ended."""
 
     def __init__(self, facts, ended):
-        self.of, self.asleep, self.busy, self.since = {}, set(), set(), {}
+        self.of, self.since = {}, {}
         if b" off asleep" in facts.data:
             self.read(facts.data)
-            self.end_all(ended)
+            for thread in list(self.since):
+                self.end(thread, ended)
 
     def read(self, data):
-        now = 0
-        for time, thread, asleep, other, waits in SAYS.findall(data):
+        now, waiting = 0, set()
+        for time, thread, asleep, wakes, waits in SAYS.findall(data):
             now = max(now, int(time))
-            if not thread:
-                self.end_all(now)
-            elif asleep:
-                self.asleep.add(thread)
-            elif other:
-                self.asleep.discard(thread)
+            if wakes:
+                self.end(thread, now)
+                continue
+            self.since.pop(thread, None)
+            if not thread:  # it is a `lost`
+                self.since.clear()
+            elif asleep and thread not in waiting:
+                self.since[thread] = now
             elif waits:
-                self.busy.add(thread)
-            else:
-                self.busy.discard(thread)
-            self.look(thread, now)
+                waiting.add(thread)
+            elif not asleep:
+                waiting.discard(thread)
 
-    def look(self, thread, now):
-        """Begins or ends a sleep."""
-        if thread not in self.asleep or thread in self.busy:
-            begin = self.since.pop(thread, now)
-            if begin < now:
-                begins, ends = self.of.setdefault(int(thread), ([], []))
-                begins.append(begin)
-                ends.append(now)
-        else:
-            self.since.setdefault(thread, now)
-
-    def end_all(self, now):
-        self.asleep.clear()
-        for thread in list(self.since):
-            self.look(thread, now)
+    def end(self, thread, now):
+        begin = self.since.pop(thread, now)
+        if begin < now:
+            begins, ends = self.of.setdefault(int(thread), ([], []))
+            begins.append(begin)
+            ends.append(now)
 
     def between(self, thread, begin, end):
         """Returns for how long a thread slept between two times."""

@@ -41,7 +41,8 @@ mutex 2 inherit b
 50 2 released 2
 50 end
 """
-READ = "waits", "blocks", "granted", "gave-up", "resumes", "on", "off", "lost"
+READ = ("waits", "blocks", "granted", "took", "gave-up", "released", "resumes", "on", "off",
+        "lost")
 TIME = r"([\d.,]+ (?:s|ms|us|ns))"
 PAGE = (ROOT / "docs/REPORT.md").read_text()
 
@@ -323,25 +324,37 @@ def hostile(found):
         "<main")[0].replace("<b>&lt;b&gt;", "") and script else "they are parts of the page")
 
 
+def sleeps_wanted(text, ended):
+    """Returns by thread for how long it was asleep, by what each line says of it."""
+    lines = [line for line in map(line_of, lines_of(text)[1:]) if line.what in READ]
+    found, world = Counter(), World()
+    clocks = [max(line.time for line in lines[:at + 1]) for at in range(len(lines))]
+    for at, line in enumerate(lines):
+        if line.what == "off" and not line.ready and not {line.thread} & {
+                *world.awaits, *world.blocked}:
+            later = ((one, clock) for one, clock in zip(lines[at + 1:], clocks[at + 1:])
+                     if one.what == "lost" or one.thread == line.thread)
+            one, clock = next(later, (None, ended))
+            if one is None or one.what == "on" or (one.what == "off" and one.ready):
+                found[line.thread] += clock - clocks[at]
+        if line.what in ("waits", "granted", "gave-up"):
+            world.awaits.pop(line.thread, None)
+        if line.what in ("blocks", "resumes"):
+            world.blocked.pop(line.thread, None)
+        if line.what in ("waits", "blocks"):
+            (world.awaits if line.what == "waits" else world.blocked)[line.thread] = True
+    return +found
+
+
 def sleeps(found):
-    """By the plain definitions threads were asleep for as long. Time passes by the lines read."""
+    """By a plain reading threads were asleep for as long. Time passes by the lines read."""
     wrong, many = [], 0
     for seed, (text, one, _) in enumerate(found):
-        wanted, world, now = Counter(), World(), 0
-        for line in [*map(line_of, lines_of(text)[1:]), None]:
-            if line is None or line.what in READ:
-                later = max(now, line.time if line else one.rows.ended)
-                for thread, is_ready in world.off.items():
-                    if not is_ready and thread not in {**world.awaits, **world.blocked}:
-                        wanted[thread] += later - now
-                now = later
-            if line:
-                world.apply(line)
         known = Sleeps(one.facts, one.rows.ended)
         got = Counter({thread: known.between(thread, 0, one.rows.ended) for thread in known.of})
         many += len(got)
-        wrong += [] if got == +wanted else [str(seed)]
-    check("who slept, and for how long", ", ".join(wrong[:5]) or (None if many > 50 else str(many)))
+        wrong += [] if got == sleeps_wanted(text, one.rows.ended) else [str(seed)]
+    check("who slept, and for how long", ", ".join(wrong[:5]) or (None if many > 15 else str(many)))
 
 
 def table_wanted(text, listed):
