@@ -95,8 +95,9 @@ class Terminal:
             self.put(f"and {count(number, what)} (--all shows all)", indent)
 
     def sentences(self, one):
-        for line in one.lines:
+        for line in one.lines[:self.most]:
             self.put(line, 2)
+        self.rest(len(one.lines) - self.most, "more sentence", 2)
         self.advise(one, 2)
 
     def finding(self, one):

@@ -12,6 +12,7 @@ from asleep import Sleeps
 from bounds import Bounds
 from tests.shared.checks import ROOT, check
 from facts_text import Facts
+from findings import Findings
 from html_page import page_of
 from json_report import json_of
 from lines import line_of, lines_of
@@ -557,6 +558,54 @@ def far_ways():
         found.waits_between(1, line, line + 9)
     took = time.process_time() - begin  # 0.02 s, or 5 s if each wait is looked at
     check("5,000 looks for some of 20,000 waits", None if took < 1 else f"{took:.2f} s of 1")
+
+
+def ring(count):
+    """Returns facts of threads of which each owns a mutex, and waits for that of the next one."""
+    facts = ["facts 1", *(f"thread {t} {t % 90} t{t}" for t in range(1, count + 1)),
+             *(f"mutex {m} none m{m}" for m in range(1, count + 1)),
+             *(f"0 {t} granted {t}" for t in range(1, count + 1))]
+    first, rows = len(facts) + 1, []
+    for t in range(1, count + 1):
+        following = t % count + 1
+        facts.append(f"1 {t} waits {following}")
+        rows.append(f"wait {first + t - 1} 0 {t} {following} 1 {count - 1} {t % 90} {t % 90}"
+                    f" {following} {following % 90} {first - count + following - 1} 0 0 0")
+    facts.append(f"{count} end")
+    rows += [f"section {t} {t} {t % 90} 1 {count} {first - count + t - 1} {count}"
+             for t in range(1, count + 1)]
+    rows += [f"nests {t} {t} {t % count + 1} 1 {first - count + t - 1} {first + t - 1}"
+             for t in range(1, count + 1)]
+    rows.append(f"deadlock {' '.join(map(str, range(1, count + 1)))}")
+    rows.append(f"end {len(facts)} {count} {count} 0 1")
+    return "\n".join(facts).encode(), "\n".join(rows)
+
+
+def crowd(count):
+    """Returns facts of threads that wait for one mutex in vain, with names that differ."""
+    facts = ["facts 1", *(f"thread {t} {t % 90} t{t}" for t in range(1, count + 1)),
+             "mutex 1 none m", "0 1 granted 1"]
+    first, rows = len(facts) + 1, []
+    for t in range(2, count + 1):
+        inverted = (2 * count - t) * (t % 90 > 1)
+        facts.append(f"{t} {t} waits 1 pool.c:{t % 700}")
+        rows.append(f"wait {first + t - 2} 0 {t} 1 {t} {2 * count - t} {t % 90} {t % 90} 1 1"
+                    f" {first - 1} {inverted} {inverted} 0")
+        rows += [f"inverted {first + t - 2} 1 1 1 {inverted}"] * (inverted > 0)
+    facts.append(f"{2 * count} end")
+    rows += [f"section 1 1 1 1 {2 * count} {first - 1} {2 * count}"]
+    rows.append(f"end {len(facts)} {2 * count} {count - 1} {count - 1 - count // 45} 0")
+    return "\n".join(facts).encode(), "\n".join(rows)
+
+
+def many_threads():
+    """What 1,000 threads do at one lock, or in one deadlock, is said in a screen or two."""
+    for name, (facts, rows) in (("a deadlock", ring(1000)), ("one lock", crowd(1000))):
+        begin = time.process_time()
+        text = Terminal(Findings(Recording(Facts(facts), Rows.read(rows)))).text()
+        took, lines = time.process_time() - begin, text.count("\n")
+        is_short = lines < 100 and took < 3  # 0.1 s
+        check(f"1,000 threads at {name}", None if is_short else f"{lines} lines, {took:.2f} s")
 
 
 def many_bounds():

@@ -470,6 +470,7 @@ def speed():
     took = time.process_time() - begin  # 0.35 s, or 5.3 s if each line looks at all waits
     check("5,600 facts of 63 threads and one mutex", None if took < 3 else f"{took:.2f} s of 3")
     test_forms.many_bounds()
+    test_forms.many_threads()
 
 
 def traces():
