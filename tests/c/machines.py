@@ -1,9 +1,9 @@
-"""What the checks of libpim share: its files, and runs of compilers and programs."""
+"""The files of libpim, and the CPUs that it is built for: runs of compilers and programs."""
 import os
 import subprocess
 import tempfile
 
-from tests.shared.checks import ROOT, SECONDS, check, difference
+from tests.shared.checks import ROOT, SECONDS
 
 C = ROOT / "c"
 OUT = C / "out"
@@ -24,19 +24,6 @@ def run(*command, text=None, **settings):
 def said(out):
     """Returns the end of an output as text, for the reason of a failure."""
     return out.decode(errors="replace").strip()[-300:]
-
-
-def expect(name, got, out=b""):
-    check(name, difference(got, (0, out)))
-
-
-def passes(name, *command):
-    """Checks that a command ends with status 0, and adds what it prints to the line of the check."""
-    status, out = run(*command)
-    if status:
-        check(name, said(out) or f"status {status}")
-    else:
-        check(f"{name}: {said(out)}" if said(out) else name)
 
 
 class Machine:
@@ -61,17 +48,14 @@ class Machine:
         done = subprocess.run(command, input=text, capture_output=True, timeout=SECONDS)
         return done.returncode, done.stderr, done.stdout
 
-    def passes(self, name, program):
-        passes(name, *self.runs, program)
-
     def compiled(self, folder, name, *sources, flags=("-O2",)):
-        """Returns the path of what the compiler makes of C files with libpim, or None where it refuses them."""
+        """Returns the path of what the compiler makes of C files with libpim, which must take them."""
         made = os.path.join(folder, name)
         command = [self.compiler, *self.options, f"-I{C}", "-std=c11", "-Wall", "-Wextra", "-Werror", *flags]
         status, out = run(*command, *sources, self.out / "libpim.a", "-o", made)
         if status:
-            check(f"{name} is compiled", said(out))
-        return None if status else made
+            raise AssertionError(f"{name} isn't compiled: {said(out)}")
+        return made
 
 
 HERE = Machine(OUT, "cc", "", (), "address,undefined")
@@ -108,9 +92,6 @@ class Narrow(Machine):
         status, out = self.run(self.out / "replay", "-check", text=text)
         return status, b"", out
 
-    def passes(self, name, program):
-        status, out = self.run(program)
-        check(f"{name}: {said(out)}" if status == 0 else name, (said(out) or f"status {status}") if status else None)
 
 
 CORTEX_M3 = Narrow()

@@ -2,23 +2,12 @@
 import subprocess
 import sys
 
-from tests.shared.checks import ROOT, SECONDS, check, difference, program
+from tests.shared.checks import ROOT, SECONDS, difference, program
 
 sys.path.insert(0, str(ROOT / "bench"))
 from texts import TEXTS, mixed, wide  # noqa: E402
 
 SIZES = [(2, 30), (3, 100), (5, 200), (17, 400), (64, 800), (256, 2_000)]
-
-
-def replayed(name, pim, machine, texts):
-    """Replays each text, and asks every getter after each step; compares with what the program prints."""
-    count = 0
-    for count, text in enumerate(texts, 1):
-        wanted = subprocess.run([pim], input=text, capture_output=True, timeout=SECONDS)
-        why = difference(machine.replay(text), (wanted.returncode, b"", wanted.stdout))
-        if why:
-            return check(f"replayed as the program does: {name}", f"text {count}: {why}")
-    check(f"replayed as the program does: {name}, {count} texts", None if count else "there is none")
 
 
 def locked_often():
@@ -33,27 +22,38 @@ def locked_often():
             yield "\n".join([*declared, *steps, last, ""]).encode()
 
 
-def suite(machine):
-    """The traces of suite/ and examples/, which tests/suite replays on the machine that it runs on."""
-    files = [file for folder in ("suite/traces", "examples") for file in sorted((ROOT / folder).glob("*.pim"))]
-    replayed("the suite", program(), machine, (file.read_bytes() for file in files))
+class Replayed:
+    def replayed(self, name, texts):
+        """Replays each text, and asks every getter after each step; compares with what the program prints."""
+        count = 0
+        for count, text in enumerate(texts, 1):
+            wanted = subprocess.run([program()], input=text, capture_output=True, timeout=SECONDS)
+            why = difference(self.MACHINE.replay(text), (wanted.returncode, b"", wanted.stdout))
+            if why:
+                return self.check(f"{name}", f"text {count}: {why}")
+        self.check(f"{name}, {count} texts", None if count else "there is none")
 
 
-def some(machine):
-    """Texts of few tasks, for a machine that takes long."""
-    pim = program()
-    for kind, make in TEXTS.items():
-        replayed(f"{kind}, few tasks", pim, machine, (make(*size).encode() for size in SIZES[:4]))
-    replayed("mixed again, few tasks", pim, machine, (mixed(2 + seed % 11, 100, seed).encode() for seed in range(100)))
-    replayed("many locks of a recursive mutex", pim, machine, locked_often())
-    replayed("many tasks", pim, machine, [wide(256, 40).encode()])
+class Replays(Replayed):
+    def test_the_suite_is_replayed(self):
+        """The traces of suite/ and examples/, which tests/suite replays on the machine that it runs on."""
+        files = [file for folder in ("suite/traces", "examples") for file in sorted((ROOT / folder).glob("*.pim"))]
+        self.replayed("the suite", (file.read_bytes() for file in files))
+
+    def test_texts_are_replayed(self):
+        for kind, make in TEXTS.items():
+            self.replayed(kind, (make(*size).encode() for size in SIZES))
+        self.replayed("mixed again", (mixed(2 + seed % 11, 150, seed).encode() for seed in range(200)))
+        self.replayed("many locks of a recursive mutex", locked_often())
+        self.replayed("each number of tasks", (mixed(tasks, 60 + tasks).encode() for tasks in range(2, 257, 3)))
+        self.replayed("queues of many lengths", (wide(tasks, 2 * tasks).encode() for tasks in range(3, 257, 6)))
 
 
-def replays(machine):
-    pim = program()
-    for kind, make in TEXTS.items():
-        replayed(kind, pim, machine, (make(*size).encode() for size in SIZES))
-    replayed("mixed again", pim, machine, (mixed(2 + seed % 11, 150, seed).encode() for seed in range(200)))
-    replayed("many locks of a recursive mutex", pim, machine, locked_often())
-    replayed("each number of tasks", pim, machine, (mixed(tasks, 60 + tasks).encode() for tasks in range(2, 257, 3)))
-    replayed("queues of many lengths", pim, machine, (wide(tasks, 2 * tasks).encode() for tasks in range(3, 257, 6)))
+class FewReplays(Replayed):
+    def test_texts_of_few_tasks_are_replayed(self):
+        """Texts of few tasks, for a machine that takes long."""
+        for kind, make in TEXTS.items():
+            self.replayed(f"{kind}, few tasks", (make(*size).encode() for size in SIZES[:4]))
+        self.replayed("mixed again, few tasks", (mixed(2 + seed % 11, 100, seed).encode() for seed in range(100)))
+        self.replayed("many locks of a recursive mutex", locked_often())
+        self.replayed("many tasks", [wide(256, 40).encode()])

@@ -1,12 +1,12 @@
-"""What tests/conform does with conform/mended: in a text of its places, in kernels' sources."""
+"""conform/mended: in a text of its places, in kernels' sources."""
 import difflib
 import pathlib
 import random
 import re
 import shutil
 
-from tests.shared.checks import ROOT, answer, check, skip
-from tests.conform.test_parts import same
+from tests.conform.cases import ConformCase, setUpModule
+from tests.shared.checks import ROOT, answer, program
 
 import compare
 import fuzz
@@ -145,110 +145,103 @@ def code_of(text):
     return re.sub(r"(?m)^\s*$\n", "", re.sub(r"(?s)/\*.*?\*/", "", text))
 
 
-def walks(folder):
-    """The first change is made in the walk, and where sched_setscheduler begins one."""
-    file, api = folder / "rtmutex.c", folder / "rtmutex_api.c"
-    script_file = ROOT / "conform/mended/mend"
-    file.write_text(RTMUTEX)
-    api.write_text(API)
-    status, out, _ = answer([script_file, "--ways", "1", file])
-    walk, _, rest = out.decode().partition("\n}")
-    same("the first change", (status, code_of(walk.partition("{\n")[2] + "\n")), 0, WALK)
-    same("it has no other place", rest, RTMUTEX.partition("\n}")[2])
-    same("it says why", walk.count("/*"), RTMUTEX.count("/*") + 2)
-    status, out, _ = answer([script_file, "--ways", "1", api])
-    same("the first change of the other file", (status, out.decode()), 0,
-         re.sub(r"if \(.*\) {", "if (!waiter) {", API))
-    status, out, _ = answer([script_file, "--ways", "2,3", api])
-    same("the others have no place there", (status, out.decode()), 0, API)
+class Mended(ConformCase):
+    def test_the_change_of_a_walk(self):
+        """The first change is made in the walk, and where sched_setscheduler begins one."""
+        file, api = self.folder / "rtmutex.c", self.folder / "rtmutex_api.c"
+        script_file = ROOT / "conform/mended/mend"
+        file.write_text(RTMUTEX)
+        api.write_text(API)
+        status, out, _ = answer([script_file, "--ways", "1", file])
+        walk, _, rest = out.decode().partition("\n}")
+        self.same("the first change", (status, code_of(walk.partition("{\n")[2] + "\n")), 0, WALK)
+        self.same("it has no other place", rest, RTMUTEX.partition("\n}")[2])
+        self.same("it says why", walk.count("/*"), RTMUTEX.count("/*") + 2)
+        status, out, _ = answer([script_file, "--ways", "1", api])
+        self.same("the first change of the other file", (status, out.decode()), 0,
+                  re.sub(r"if \(.*\) {", "if (!waiter) {", API))
+        status, out, _ = answer([script_file, "--ways", "2,3", api])
+        self.same("the others have no place there", (status, out.decode()), 0, API)
 
+    def test_each_change_is_made_where_it_belongs(self):
+        """Each change is made where it belongs; where it doesn't fit, nothing is printed."""
+        file, script_file = self.folder / "rtmutex.c", ROOT / "conform/mended/mend"
+        file.write_text(RTMUTEX)
+        for way, (gone, new) in MENDED.items():
+            status, out, _ = answer([script_file, "--ways", way, file])
+            lines = list(difflib.ndiff(RTMUTEX.splitlines(), out.decode().splitlines()))
+            less, more = ([line[2:] for line in lines if line[0] == sign] for sign in "-+")
+            self.same(f"the change for way {way}", (status, less, more), 0, gone, new)
+        status, out, _ = answer([script_file, file])
+        self.check("all changes", None if status == 0 and TAKEN in out.decode() else out.decode())
+        again = self.folder / "again.c"
+        again.write_bytes(out)
+        cases = {"a mended file": (again, "prio_chain has 0 places for a change, not one"),
+                 "another file": (script_file, "there is no function rt_mutex_adjust_prio_chain"),
+                 "no file": (self.folder / "none", "No such file")}
+        double, place = self.folder / "double.c", RTMUTEX.split("\n{\n")[2].partition("	raw")[0]
+        double.write_text(RTMUTEX.replace("	raw_spin_unlock", f"{place}	raw_spin_unlock"))
+        cases["a place twice"] = (double, "try_to_take_rt_mutex has 2 places for a change, not one")
+        for name, (path, wanted) in cases.items():
+            status, out, err = answer([script_file, path])
+            self.same(f"no change: {name}", (status, out, wanted in err.decode()), 2, b"", True)
+        for words in ("4", "", "1-3", "12", "1,", "1,,2", "1, 2"):
+            status, _, err = answer([script_file, "--ways", words, file])
+            said = f"argument --ways: '{words}' isn't a list of 1, 2 and 3, as 1,2\n"
+            self.same(f"no ways: '{words}'", (status, err.decode().endswith(said)), 2, True)
 
-def mends(folder):
-    """Each change is made where it belongs; where it doesn't fit, nothing is printed."""
-    file, script_file = folder / "rtmutex.c", ROOT / "conform/mended/mend"
-    file.write_text(RTMUTEX)
-    for way, (gone, new) in MENDED.items():
-        status, out, _ = answer([script_file, "--ways", way, file])
-        lines = list(difflib.ndiff(RTMUTEX.splitlines(), out.decode().splitlines()))
-        less, more = ([line[2:] for line in lines if line[0] == sign] for sign in "-+")
-        same(f"the change for way {way}", (status, less, more), 0, gone, new)
-    status, out, _ = answer([script_file, file])
-    check("all changes", None if status == 0 and TAKEN in out.decode() else out.decode())
-    again = folder / "again.c"
-    again.write_bytes(out)
-    cases = {"a mended file": (again, "prio_chain has 0 places for a change, not one"),
-             "another file": (script_file, "there is no function rt_mutex_adjust_prio_chain"),
-             "no file": (folder / "none", "No such file")}
-    double, place = folder / "double.c", RTMUTEX.split("\n{\n")[2].partition("	raw")[0]
-    double.write_text(RTMUTEX.replace("	raw_spin_unlock", f"{place}	raw_spin_unlock"))
-    cases["a place twice"] = (double, "try_to_take_rt_mutex has 2 places for a change, not one")
-    for name, (path, wanted) in cases.items():
-        status, out, err = answer([script_file, path])
-        same(f"no change: {name}", (status, out, wanted in err.decode()), 2, b"", True)
-    for words in ("4", "", "1-3", "12", "1,", "1,,2", "1, 2"):
-        status, _, err = answer([script_file, "--ways", words, file])
-        said = f"argument --ways: '{words}' isn't a list of 1, 2 and 3, as 1,2\n"
-        same(f"no ways: '{words}'", (status, err.decode().endswith(said)), 2, True)
+    def own_code(self, source, pim):
+        """What the code of a source does in user space, as it is and mended."""
+        programs = {}
+        for ways in ("", "123"):
+            programs[ways] = walker.build(source, ways, source / f"ways{ways}")
+            for name, schedule in races.SCHEDULES.items():
+                text = races.text_of(schedule)
+                wrong, count = walker.orders(programs[ways], text, schedule.calls, 3)
+                is_in_kernel = not ways and name != "released"
+                self.same(f"{source.name}, ways '{ways}': the schedule {name}", (wrong > 0, count > 0),
+                          is_in_kernel, True)
+        rng, apart = random.Random(6), dict.fromkeys(programs, 0)
+        for _ in range(200):
+            text, wanted = compare.Text(fuzz.random_source(rng, "inherit")), []
+            for done in compare.reported(pim, text):
+                now = {**(wanted[-1] if wanted else text.bases), **done.changes}
+                wanted.append(now)
+            wanted = [[it[t] for t in sorted(it)] for it in wanted]
+            for ways, program in programs.items():
+                apart[ways] += walker.performed(program, text) != wanted
+        self.same(f"{source.name}: mended, it agrees with pim on 200 random texts, and as it is not",
+                  (apart["123"], apart[""] > 0), 0, True)
 
+    def patched(self, source, files):
+        """The patch makes of the files of 6.12 what the script makes of them."""
+        copy = source.parent / "patched"
+        (copy / "kernel/locking").mkdir(parents=True)
+        wanted = []
+        for file in files:
+            shutil.copy(file, copy / "kernel/locking")
+            wanted.append(answer([ROOT / "conform/mended/mend", file])[1])
+        patch = ROOT / "conform/mended/linux-6.12.117.patch"
+        status, _, err = answer(["patch", "-s", "-p1", "-d", copy, "-i", patch])
+        got = [(copy / "kernel/locking" / file.name).read_bytes() for file in files]
+        self.same("the patch for 6.12 makes the changes", (status, err, got), 0, b"", wanted)
 
-def own_code(source, pim):
-    """What the code of a source does in user space, as it is and mended."""
-    programs = {}
-    for ways in ("", "123"):
-        programs[ways] = walker.build(source, ways, source / f"ways{ways}")
-        for name, schedule in races.SCHEDULES.items():
-            text = races.text_of(schedule)
-            wrong, count = walker.orders(programs[ways], text, schedule.calls, 3)
-            is_in_kernel = not ways and name != "released"
-            same(f"{source.name}, ways '{ways}': the schedule {name}", (wrong > 0, count > 0),
-                 is_in_kernel, True)
-    rng, apart = random.Random(6), dict.fromkeys(programs, 0)
-    for _ in range(200):
-        text, wanted = compare.Text(fuzz.random_source(rng, "inherit")), []
-        for done in compare.reported(pim, text):
-            now = {**(wanted[-1] if wanted else text.bases), **done.changes}
-            wanted.append(now)
-        wanted = [[it[t] for t in sorted(it)] for it in wanted]
-        for ways, program in programs.items():
-            apart[ways] += walker.performed(program, text) != wanted
-    same(f"{source.name}: mended, it agrees with pim on 200 random texts, and as it is not",
-         (apart["123"], apart[""] > 0), 0, True)
-
-
-def patched(source, files):
-    """The patch makes of the files of 6.12 what the script makes of them."""
-    copy = source.parent / "patched"
-    (copy / "kernel/locking").mkdir(parents=True)
-    wanted = []
-    for file in files:
-        shutil.copy(file, copy / "kernel/locking")
-        wanted.append(answer([ROOT / "conform/mended/mend", file])[1])
-    patch = ROOT / "conform/mended/linux-6.12.117.patch"
-    status, _, err = answer(["patch", "-s", "-p1", "-d", copy, "-i", patch])
-    got = [(copy / "kernel/locking" / file.name).read_bytes() for file in files]
-    same("the patch for 6.12 makes the changes", (status, err, got), 0, b"", wanted)
-
-
-def installed_sources(pim, folder):
-    """The changes can be made in each source that Debian's packages have put here, and mend it."""
-    archives = sorted(pathlib.Path("/usr/src").glob("linux-source-*.tar.xz"))
-    if not archives:
-        return skip("the changes in a kernel's source", "no linux-source is installed")
-    for archive in archives:
-        place = f"{archive.name.partition('.tar')[0]}/kernel/locking"
-        names = [f"{place}/{name}" for name in ("rtmutex.c", "rtmutex_api.c", "rtmutex_common.h")]
-        # It reads no further.
-        command = ["tar", "-xf", archive, "-C", folder, "--occurrence=1", *names]
-        answer(command)
-        for name, ways in ((names[0], "1"), (names[0], "2"), (names[0], "3"), (names[0], "1,2,3"),
-                           (names[1], "1")):
-            status, out, err = answer([ROOT / "conform/mended/mend", "--ways", ways, folder / name])
-            is_changed = out != (folder / name).read_bytes()
-            same(f"the change {ways} in {name}", (status, err, is_changed), 0, b"", True)
-        if archive.name.startswith("linux-source-6.12."):
-            patched(folder / "linux-source-6.12", [folder / name for name in names[:2]])
-        own_code(folder / archive.name.partition(".tar")[0], pim)
-    return None
-
-
-PARTS = (walks, mends, installed_sources)
+    def test_installed_sources_are_mended(self):
+        """The changes can be made in each source that Debian's packages have put here, and mend it."""
+        archives = sorted(pathlib.Path("/usr/src").glob("linux-source-*.tar.xz"))
+        if not archives:
+            return self.skip("the changes in a kernel's source", "no linux-source is installed")
+        for archive in archives:
+            place = f"{archive.name.partition('.tar')[0]}/kernel/locking"
+            names = [f"{place}/{name}" for name in ("rtmutex.c", "rtmutex_api.c", "rtmutex_common.h")]
+            # It reads no further.
+            command = ["tar", "-xf", archive, "-C", self.folder, "--occurrence=1", *names]
+            answer(command)
+            for name, ways in ((names[0], "1"), (names[0], "2"), (names[0], "3"), (names[0], "1,2,3"),
+                               (names[1], "1")):
+                status, out, err = answer([ROOT / "conform/mended/mend", "--ways", ways, self.folder / name])
+                is_changed = out != (self.folder / name).read_bytes()
+                self.same(f"the change {ways} in {name}", (status, err, is_changed), 0, b"", True)
+            if archive.name.startswith("linux-source-6.12."):
+                self.patched(self.folder / "linux-source-6.12", [self.folder / name for name in names[:2]])
+            self.own_code(self.folder / archive.name.partition(".tar")[0], program())

@@ -1,8 +1,9 @@
-"""What tests/conform does with conform/storm where no thread needs a right: stops by hand."""
+"""conform/storm where no thread needs a right: stops by hand."""
 import os
 
-from tests.shared.checks import ROOT, answer
-from tests.conform.test_parts import parsed_as, same, script_module
+from tests.conform.cases import ConformCase, setUpModule
+from tests.shared.checks import ROOT, answer, program
+from tests.conform.test_parts import parsed_as, script_module
 
 import storms
 
@@ -51,41 +52,6 @@ stopped 2, locks 4, waits 2, timeouts 0, cancels 0, priorities 1
 """
 
 
-def judged_stops(pim, folder):
-    """What conform/storm says of stops: each wrong priority, with the smallest text."""
-    stored = folder / "stored"
-    stored.write_text(STORM)
-    command = [ROOT / "conform/storm", "--pim", pim, "--from", stored]
-    same("a storm with wrong priorities", answer(command), 1, SAID.encode(), b"")
-    right = STORM.replace("at 30 owns 1", "at 60 owns 1").replace("at 55", "at 5")
-    right = right.replace("at 40\nstopped", "at 50\nstopped")
-    stored.write_text(right)
-    status, out, _ = answer(command)
-    same("a storm without one", (status, out.splitlines()[-1]), 0,
-         b"2 stops: 0 with a wrong priority, 0 threads above, 0 below")
-    cases = {"a storm that didn't end": (right.partition("stopped")[0], "the storm didn't end"),
-             "a line that can't be read": (right.replace("base 20 at", "base at"),
-                                           "the storm's line can't be read: thread"),
-             "what storm says itself": (right + "storm: lock\n", "the storm said: storm: lock"),
-             "a mutex that nobody owns": (right.replace(" owns 2", ""),
-                                          "thread 3 waits for a mutex that nobody owns"),
-             "two owners": (right.replace("owns 3", "owns 3 owns 1"),
-                            "the state of a stop isn't one of a run")}
-    for name, (text, wanted) in cases.items():
-        stored.write_text(text)
-        status, _, err = answer(command)
-        same(f"a fault: {name}", (status, f"storm: {wanted}" in err.decode()), 2, True)
-
-
-def texts_of_stops():
-    """The text of a stop: owners lock, then waiters; threads and mutexes are numbered anew."""
-    threads = {7: storms.Thread(10, 60, None, (4, 9)), 3: storms.Thread(60, 60, 9, ())}
-    got = storms.text_of(threads, {4: "protect 91", 9: "inherit", 2: "inherit"})
-    text = ("pim 1\ntask 1 60\ntask 2 10\nmutex 1 protect 91\nmutex 2 inherit\n"
-            "2 lock 1\n2 lock 2\n1 lock 2\n")
-    same("the text of a stop", got, text, {3: 1, 7: 2})
-
-
 # ---- the command line
 
 WRONG = {"--threads 1": "--threads is from 2 to 64", "--mutexes 65": "--mutexes is from 1 to 64",
@@ -94,21 +60,52 @@ WRONG = {"--threads 1": "--threads is from 2 to 64", "--mutexes 65": "--mutexes 
          "--cpus x": "argument --cpus: 'x' isn't a list of CPUs, as 0,1"}
 
 
-def options():
-    """What conform/storm takes, and what it doesn't; and what its program refuses."""
-    module, cpus = script_module("storm"), sorted(os.sched_getaffinity(0))[-2:]
-    usual = {"seconds": 60, "cpus": cpus, "threads": 40, "mutexes": 30, "seed": 1, "pim": None,
-             "stored": None}
-    same("storm: what isn't given", parsed_as(module), usual)
-    same("storm: CPUs", parsed_as(module, "--cpus", f"{cpus[0]},{cpus[0]}")["cpus"], cpus[:1])
-    for words, wanted in WRONG.items():
-        same(f"storm: {words}", parsed_as(module, *words.split()), 2, wanted)
-    status, out, _ = answer([ROOT / "conform/storm", "--help"])
-    same("storm --help", (status, b"'ulimit -r 99'" in out, b"Status: 0" in out), 0, True, True)
-    for words in ("--threads 1", "--mutexes 65", "--seconds 0", "--seed x"):
-        status, out, err = answer([ROOT / "conform/out/storm", *words.split()])
-        said = b"isn't a number from " in err
-        same(f"the threads' program: {words}", (status, out, said), 2, b"", True)
+class Storm(ConformCase):
+    def test_each_wrong_priority_of_a_stop_is_told(self):
+        """What conform/storm says of stops: each wrong priority, with the smallest text."""
+        stored = self.folder / "stored"
+        stored.write_text(STORM)
+        command = [ROOT / "conform/storm", "--pim", program(), "--from", stored]
+        self.same("a storm with wrong priorities", answer(command), 1, SAID.encode(), b"")
+        right = STORM.replace("at 30 owns 1", "at 60 owns 1").replace("at 55", "at 5")
+        right = right.replace("at 40\nstopped", "at 50\nstopped")
+        stored.write_text(right)
+        status, out, _ = answer(command)
+        self.same("a storm without one", (status, out.splitlines()[-1]), 0,
+                  b"2 stops: 0 with a wrong priority, 0 threads above, 0 below")
+        cases = {"a storm that didn't end": (right.partition("stopped")[0], "the storm didn't end"),
+                 "a line that can't be read": (right.replace("base 20 at", "base at"),
+                                               "the storm's line can't be read: thread"),
+                 "what storm says itself": (right + "storm: lock\n", "the storm said: storm: lock"),
+                 "a mutex that nobody owns": (right.replace(" owns 2", ""),
+                                              "thread 3 waits for a mutex that nobody owns"),
+                 "two owners": (right.replace("owns 3", "owns 3 owns 1"),
+                                "the state of a stop isn't one of a run")}
+        for name, (text, wanted) in cases.items():
+            stored.write_text(text)
+            status, _, err = answer(command)
+            self.same(f"a fault: {name}", (status, f"storm: {wanted}" in err.decode()), 2, True)
 
+    def test_the_text_of_a_stop(self):
+        """The text of a stop: owners lock, then waiters; threads and mutexes are numbered anew."""
+        threads = {7: storms.Thread(10, 60, None, (4, 9)), 3: storms.Thread(60, 60, 9, ())}
+        got = storms.text_of(threads, {4: "protect 91", 9: "inherit", 2: "inherit"})
+        text = ("pim 1\ntask 1 60\ntask 2 10\nmutex 1 protect 91\nmutex 2 inherit\n"
+            "2 lock 1\n2 lock 2\n1 lock 2\n")
+        self.same("the text of a stop", got, text, {3: 1, 7: 2})
 
-PARTS = (judged_stops, texts_of_stops, options)
+    def test_options(self):
+        """What conform/storm takes, and what it doesn't; and what its program refuses."""
+        module, cpus = script_module("storm"), sorted(os.sched_getaffinity(0))[-2:]
+        usual = {"seconds": 60, "cpus": cpus, "threads": 40, "mutexes": 30, "seed": 1, "pim": None,
+                 "stored": None}
+        self.same("storm: what isn't given", parsed_as(module), usual)
+        self.same("storm: CPUs", parsed_as(module, "--cpus", f"{cpus[0]},{cpus[0]}")["cpus"], cpus[:1])
+        for words, wanted in WRONG.items():
+            self.same(f"storm: {words}", parsed_as(module, *words.split()), 2, wanted)
+        status, out, _ = answer([ROOT / "conform/storm", "--help"])
+        self.same("storm --help", (status, b"'ulimit -r 99'" in out, b"Status: 0" in out), 0, True, True)
+        for words in ("--threads 1", "--mutexes 65", "--seconds 0", "--seed x"):
+            status, out, err = answer([ROOT / "conform/out/storm", *words.split()])
+            said = b"isn't a number from " in err
+            self.same(f"the threads' program: {words}", (status, out, said), 2, b"", True)

@@ -1,17 +1,16 @@
-#!/usr/bin/env python3
-"""tests/program/test_judge.py [PROGRAM]: the program beside the plain judge in C++ (bench/judge.cpp).
+"""The program compared with the plain judge in C++ (bench/judge.cpp).
 
 Both are given small traces of the kinds that bench/texts.py makes, these with recorded replies, right
 ones and a wrong one, texts with a few bytes changed, which are nearly all invalid, and lines of the
-second version in texts of the first.
-Both must write the same bytes to both streams and end with the same status. Prints a line for each
-kind: 'ok NAME' or 'FAIL NAME: why'.
+second version in texts of the first. The plain manager, which is proved and computes each priority
+from scratch, is given traces of few tasks, with unknown numbers among them.
+All must write the same bytes to both streams and end with the same status.
 """
 import random
 import sys
-import tempfile
 
-from tests.shared.checks import ROOT, answer, check, compiled, difference, end, program
+from tests.cases import Case, temporary_folder
+from tests.shared.checks import ROOT, answer, compiled, difference, program, soak
 
 sys.path.insert(0, str(ROOT / "bench"))
 from texts import TEXTS, mixed, second, wide  # noqa: E402
@@ -25,7 +24,7 @@ def replies(report):
 
 
 def with_replies(text, recorded):
-    """Returns the text with a recorded reply behind each step line."""
+    """Returns the text with a recorded reply after each step line."""
     lines = text.splitlines()
     first = len(lines) - len(recorded)
     steps = [b"%s = %s\n" % pair for pair in zip(lines[first:], recorded)]
@@ -78,28 +77,59 @@ def many_locks():
         yield locked + b"1 release\n2 try 1\n2 release\n"
 
 
-def compare(name, judge, pim, texts):
-    count = 0
-    for count, text in enumerate(texts, 1):
-        why = difference(answer([pim], text), answer([judge], text))
-        if why:
-            return check(f"as the judge in C++: {name}", f"text {count}: {why}")
-    check(f"as the judge in C++: {name}, {count} texts", None if count else "there is none")
+def with_unknown_numbers(text):
+    """Returns the text with other numbers, and numbers that aren't declared, in some of its steps."""
+    draw, lines = random.Random(7), []
+    for line in text.splitlines():
+        if line[:1].isdigit() and draw.random() < 0.2:
+            words = line.split()
+            words[draw.randrange(0, len(words), 2)] = str(draw.randint(1, 8))
+            line = " ".join(words)
+        lines.append(line + "\n")
+    return "".join(lines).encode()
 
 
-with tempfile.TemporaryDirectory() as folder:
-    pim, judge = program(), compiled(ROOT / "bench/judge.cpp", folder)
-    for kind, make in TEXTS.items():
-        compare(kind, judge, pim, (make(*size).encode() for size in SIZES))
-    seeds = ((4 + seed % 9, 150, seed) for seed in range(100))
-    compare("mixed again", judge, pim, (mixed(*sizes).encode() for sizes in seeds))
-    tasks = ((tasks, 60 + tasks) for tasks in range(2, 257))
-    compare("each number of tasks", judge, pim, (mixed(*sizes).encode() for sizes in tasks))
-    lengths = ((tasks, 2 * tasks) for tasks in range(3, 257, 2))
-    compare("queues of many lengths", judge, pim, (wide(*sizes).encode() for sizes in lengths))
-    for make in (mixed, second):
-        compare(f"recorded replies, {make.__name__}", judge, pim, recordings(judge, make))
-        compare(f"spoiled, {make.__name__}", judge, pim, spoiled(make))
-    compare("second in version 1", judge, pim, of_version_1(recordings(judge, second)))
-    compare("many locks of a recursive mutex", judge, pim, many_locks())
-end()
+class Judge(Case):
+    @classmethod
+    def setUpClass(cls):
+        cls.pim, cls.judge = program(), compiled(ROOT / "bench/judge.cpp", temporary_folder(cls.addClassCleanup))
+
+    def compare(self, name, texts, judge=()):
+        """Gives each text to both, up to the first on which they differ. The judge is that in C++ if omitted."""
+        count, why = 0, None
+        for count, text in enumerate(texts, 1):
+            if why := difference(answer([self.pim], text), answer([*judge] or [self.judge], text)):
+                break
+        self.check(f"{name}, {count} texts", why if count else "there is none")
+
+    def test_texts_of_each_kind(self):
+        for kind, make in TEXTS.items():
+            self.compare(kind, (make(*size).encode() for size in SIZES))
+
+    def test_mixed_texts(self):
+        self.compare("mixed", (mixed(4 + seed % 9, 150, seed).encode() for seed in range(100)))
+
+    def test_each_number_of_tasks(self):
+        self.compare("tasks", (mixed(tasks, 60 + tasks).encode() for tasks in range(2, 257)))
+
+    def test_queues_of_many_lengths(self):
+        self.compare("lengths", (wide(tasks, 2 * tasks).encode() for tasks in range(3, 257, 2)))
+
+    def test_recorded_replies(self):
+        for make in (mixed, second):
+            self.compare(make.__name__, recordings(self.judge, make))
+
+    def test_spoiled_texts(self):
+        for make in (mixed, second):
+            self.compare(make.__name__, spoiled(make))
+
+    def test_lines_of_version_2_in_texts_of_version_1(self):
+        self.compare("second", of_version_1(recordings(self.judge, second)))
+
+    def test_many_locks_of_a_recursive_mutex(self):
+        self.compare("locks", many_locks())
+
+    def test_unknown_numbers_as_the_plain_manager(self):
+        for make in (mixed, second):
+            texts = (with_unknown_numbers(make(6, 500, seed)) for seed in range(20))
+            self.compare(make.__name__, texts, [soak(), "judge"])

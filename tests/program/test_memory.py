@@ -1,20 +1,18 @@
-#!/usr/bin/env python3
-"""tests/program/test_memory.py [PROGRAM]: each allocation of the calls that allocate, and of the program, fails.
+"""Each allocation of the calls that allocate, and of the program, fails.
 
-Runs each test of crates/pim_failing_allocations whose name ends in '_out_of_memory': its first allocation
-fails, then its second, until no failing one is left. The test must pass, or end in the error by which it
-says that its call was out of memory and changed nothing. The program must then end with status 2, a prefix
-of the report, and the line 'pim: memory'. A script that the program runs or checks must then end with
-status 2, no output, and one of three lines; so it must if one of its threads can't be started. Of the
-program, 'check' and 'run' must be out of memory in the run at least once: one that printed its output
-without a run would never be. The log of a run must have room for the run's entries, and for no
-more. Prints a line for each call: 'ok NAME', with the number of its allocations, or 'FAIL NAME: why'.
+Makes each call of crates/pim_soak that allocates: its first allocation fails, then its second, until no
+failing one is left. The call must succeed, or report that it was out of memory, and then it changed nothing.
+The program must then end with status 2, a prefix of the report, and the line 'pim: memory'. A script that
+the program runs or checks must then end with status 2, no output, and one of three lines; so it must if one
+of its threads can't be started. Of the program, 'check' and 'run' must be out of memory in the run at least
+once: one that printed its output without a run would never be. The log of a run must have room for the
+run's entries, and for no more.
 """
 import re
 import subprocess
-import tempfile
 
-from tests.shared.checks import Faulty, answer, built, check, difference, end, program
+from tests.cases import Case, temporary_folder
+from tests.shared.checks import Faulty, answer, difference, program, soak
 
 MOST = 5_000
 STEPS = 5_000
@@ -51,46 +49,6 @@ def sweep(faulty, command, text=b""):
     yield MOST, (1, b"", b"allocations without an end")
 
 
-def call(faulty, tests, name):
-    """Checks a call by its test, and counts the allocations that the call itself makes."""
-    failed, label = 0, re.sub(r"^.*::|_out_of_memory$", "", name)
-    for number, (status, out, err) in sweep(faulty, [tests, name]):
-        said = (out + err).decode(errors="replace")
-        failed += "out of memory in the call" in said
-        if status != 0 and not re.search("out of memory (in|before) the call", said):
-            return check(label, f"allocation {number}: status {status}, {said.strip()[-200:]}")
-    check(f"{label}: {failed} allocations", None if failed else "no allocation of it failed")
-
-
-def whole_program(faulty, pim):
-    failed = 0
-    for number, (status, out, err) in sweep(faulty, [pim], TEXT):
-        failed += status != 0
-        if status == 0:
-            why = difference((out, err), (REPORT, b""))
-        else:
-            why = difference((status, out, err), (2, REPORT[: len(out)], b"pim: memory\n"))
-        if why:
-            return check("pim", f"allocation {number}: {why}")
-    check(f"pim: {failed} allocations", None if failed > 10 else "too few to be all")
-
-
-def runs(faulty, pim, job, whose, script, output):
-    failed, faults, name = 0, set(), f"pim {job} of {whose}"
-    for number, (status, out, err) in sweep(faulty, [pim, job], script):
-        failed += status != 0
-        if status == 0:
-            wanted = trace_by_schedule(pim, script, out) if output is None else output
-            why = difference((out, err), (wanted, b""))
-        else:
-            why = difference((status, out, err in LINES), (2, b"", True))
-            faults.add(err)
-        if why:
-            return check(name, f"allocation {number}: {why}, {err}")
-    shared = None if LINES[1] in faults else "no allocation of the run failed"
-    check(f"{name}: {failed} allocations", shared)
-
-
 def trace_by_schedule(pim, script, trace):
     """Returns the trace if it is one of a run of the script, by its judge and its lines, else what it should be."""
     declared = [line for line in script.splitlines() if not line[:1].isdigit()]
@@ -103,61 +61,81 @@ def trace_by_schedule(pim, script, trace):
     return trace if is_one else b"a trace of the script"
 
 
-def threads(faulty, pim, job):
-    """Checks that a job of 16 tasks writes nothing, whichever of its threads can't be started."""
-    for number in range(1, 18):
-        wanted = (2, b"", LINES[1]) if number <= 16 else (0, 48, b"")
-        status, out, err = faulty.run([pim, job], "thread", "fail", number, SIXTEEN)
-        why = difference((status, out if status else steps_of(out), err), wanted)
-        if why:
-            return check(f"each thread of pim {job}", f"thread {number}: {why}")
-    check(f"each of 16 threads of pim {job}")
-
-
-def room(faulty, pim, job):
-    """Checks that the log of a run has room for its steps and a release for each task, and for no more.
-
-    The numbers of entries are primes. Nothing else has as many items, or a multiple of that: so the
-    sizes of the allocations that are multiples of them are those of the logs, and have one quotient.
-    """
-    common = None
-    for tasks, entries in (1, 1_009), (3, 2_003), (16, 4_001):
-        declared = b"".join(b"task %d 10\n" % task for task in range(1, tasks + 1))
-        script = b"pim 1\n" + declared + b"1 release\n" * (entries - tasks)
-        status, out, err = faulty.run([pim, job], "sizes", "told", 0, script)
-        if (status, steps_of(out)) != (0, entries):
-            return check(f"the room of pim {job}", f"{entries} entries: {status}, {err[-200:]}")
-        sizes = {int(size) for size in err.split()}
-        quotients = {size // entries for size in sizes if size and size % entries == 0}
-        common = quotients if common is None else common & quotients
-    why = None if len(common) == 1 else f"bytes for an entry: {sorted(common)}"
-    check(f"the room of pim {job}", why)
-
-
 def steps_of(out):
     """Returns how many steps a trace has, or its judge accepted."""
     accepted = re.fullmatch(rb"accepted (\d+)\n", out)
     return int(accepted[1]) if accepted else out.count(b" = ")
 
 
-def main():
-    tests = built("pim_failing_allocations", "pim_failing_allocations_tests", "rt", "test")
-    pim = program()
-    listed = subprocess.run([tests, "--list"], stdout=subprocess.PIPE, text=True).stdout
-    names = re.findall(r"^(\S+_out_of_memory)\b", listed, re.M)
-    with tempfile.TemporaryDirectory() as folder:
-        faulty = Faulty(folder)
+class FailingAllocations(Case):
+    @classmethod
+    def setUpClass(cls):
+        cls.pim, cls.soak, cls.faulty = program(), soak(), Faulty(temporary_folder(cls.addClassCleanup))
+
+    def test_each_call_that_allocates(self):
+        names = subprocess.run([self.soak, "allocations"], stdout=subprocess.PIPE, text=True).stdout.split()
+        # The calls 'judge', 'check' and 'run' are those of the program.
+        self.assertGreaterEqual(len(names), 17, names)
         for name in names:
-            call(faulty, tests, name)
-        whole_program(faulty, pim)
+            with self.subTest(name):
+                self.assertGreater(self.failed_in(name), 0, "no allocation of it failed")
+
+    def failed_in(self, name):
+        """Checks a call, and counts the allocations that the call itself makes."""
+        failed = 0
+        for number, (status, out, err) in sweep(self.faulty, [self.soak, "allocations", name]):
+            said = (out + err).decode(errors="replace")
+            failed += "out of memory in the call" in said
+            if status != 0 and not re.search("out of memory (in|before) the call", said):
+                self.fail(f"allocation {number}: status {status}, {said.strip()[-200:]}")
+        return failed
+
+    def test_pim_ends_with_a_prefix_of_its_report(self):
+        failed = 0
+        for number, (status, out, err) in sweep(self.faulty, [self.pim], TEXT):
+            failed += status != 0
+            wanted = (2, REPORT[:len(out)], b"pim: memory\n") if status else (0, REPORT, b"")
+            self.assertFalse(difference((status, out, err), wanted), f"allocation {number}")
+        self.assertGreater(failed, 10, "too few to be all")
+
+    def test_a_run_writes_nothing(self):
         for job, whose, script, output in RUNS:
-            runs(faulty, pim, job, whose, script, output)
+            with self.subTest(f"pim {job} of {whose}"):
+                self.assertIn(LINES[1], self.faults_of(job, script, output), "no allocation of the run failed")
+
+    def faults_of(self, job, script, output):
+        """Checks a run with each allocation refused, and returns the lines that it then wrote to standard error."""
+        faults = set()
+        for number, (status, out, err) in sweep(self.faulty, [self.pim, job], script):
+            if status == 0:
+                wanted = trace_by_schedule(self.pim, script, out) if output is None else output
+                self.assertEqual((out, err), (wanted, b""), f"allocation {number}")
+            else:
+                self.assertEqual((status, out, err in LINES), (2, b"", True), f"allocation {number}: {err}")
+                faults.add(err)
+        return faults
+
+    def test_a_job_of_16_tasks_writes_nothing_if_a_thread_cannot_be_started(self):
         for job in ("run", "check"):
-            threads(faulty, pim, job)
-            room(faulty, pim, job)
-    # The calls 'judge', 'check' and 'run' are those of the program.
-    check("the calls that allocate are tested", None if len(names) >= 17 else f"only {names}")
-    end()
+            for number in range(1, 18):
+                wanted = (2, b"", LINES[1]) if number <= 16 else (0, 48, b"")
+                status, out, err = self.faulty.run([self.pim, job], "thread", "fail", number, SIXTEEN)
+                self.equal(f"{job}, thread {number}", (status, out if status else steps_of(out), err), wanted)
 
+    def test_a_log_has_room_for_its_entries_and_for_no_more(self):
+        """The numbers of entries are primes. Nothing else has as many items, or a multiple of that: so the sizes of
+        the allocations that are multiples of them are those of the logs, and have one quotient."""
+        for job in ("run", "check"):
+            with self.subTest(job):
+                common = set.intersection(*(self.quotients(job, *sizes) for sizes in
+                                            ((1, 1_009), (3, 2_003), (16, 4_001))))
+                self.assertEqual(len(common), 1, f"bytes for an entry: {sorted(common)}")
 
-main()
+    def quotients(self, job, tasks, entries):
+        """Returns the sizes of a run's allocations that are multiples of its entries, divided by these."""
+        declared = b"".join(b"task %d 10\n" % task for task in range(1, tasks + 1))
+        script = b"pim 1\n" + declared + b"1 release\n" * (entries - tasks)
+        status, out, err = self.faulty.run([self.pim, job], "sizes", "told", 0, script)
+        self.assertEqual((status, steps_of(out)), (0, entries), err[-200:])
+        sizes = {int(size) for size in err.split()}
+        return {size // entries for size in sizes if size and size % entries == 0}

@@ -1,24 +1,23 @@
-#!/usr/bin/env python3
-"""tests/program/test_soak.py [SECONDS]: runs random scripts for SECONDS, by default 5, and checks the results.
+"""Random scripts, for SOAK_SECONDS seconds, by default 5.
 
 crates/pim_soak runs scripts while wait-free readers read all the time, and compares replies and reads
 with the plain manager. Meanwhile random scripts go through 'pim run'. Each trace that it prints must
 have the lines of each task in order. 'pim judge' must accept it, and write the same bytes as the judge
 in C++ (bench/judge.cpp). 'pim check' must accept as many steps. Before that, crates/pim_soak runs the
 scripts of two seeds with mistakes put into what it compares, and must find each, and scripts of 16 tasks
-that lock two mutexes in opposite orders. Prints a line for each part: 'ok NAME: FIGURES' or 'FAIL NAME: why'.
+that lock two mutexes in opposite orders.
 """
 import itertools
+import os
 import random
 import re
 import subprocess
-import sys
-import tempfile
 import time
 
-from tests.shared.checks import ROOT, SECONDS as HANGS, answer, built, check, compiled, difference, end, own_program
+from tests.cases import Case, temporary_folder
+from tests.shared.checks import ROOT, SECONDS as HANGS, answer, compiled, difference, program, soak
 
-SECONDS = int(sys.argv[1]) if len(sys.argv) > 1 else 5
+SECONDS = int(os.environ.get("SOAK_SECONDS", "5"))
 
 # How many differences crates/pim_soak must find: a wrong base is a wrong effective priority, too; an owner has a count; a
 # waiter also has a mutex, a place in a queue and a ticket.
@@ -91,21 +90,6 @@ def wrong(pim, judge, declared, steps):
     return why or difference(said([pim, "check"], text), (0, last, ""))
 
 
-def planted(soak):
-    """Checks that crates/pim_soak finds the mistakes in the runs of two seeds."""
-    for seed in PLANTED_SEEDS:
-        why = difference(said([soak, "planted", seed], ""), (0, PLANTED, ""))
-        check(f"mistakes in the run of seed {seed} are found", why)
-
-
-def opposite(soak):
-    """Checks 16 tasks of five steps each beside 8 lookers, each of which makes at least 1,000 looks."""
-    status, out, _ = said([soak, "opposite"], "")
-    found = re.fullmatch(r"1 scripts, 80 steps .*, ([0-9]+) looks .*, 0 differences\n", out)
-    why = None if status == 0 and found and int(found[1]) >= 8_000 else f"status {status}, {out}"
-    check(f"16 tasks in opposite orders beside lookers, {found[1] if found else 0} looks", why)
-
-
 def wrong_figures(figures, status):
     """Returns what is wrong with the figures of crates/pim_soak, or None."""
     counts = [int(count) for count in re.findall(r"[0-9]+", figures)]
@@ -123,27 +107,30 @@ def said_of_reads(child):
         return child.communicate()[0].strip()
 
 
-def main():
-    soak = built("pim_soak", "pim_soak", "rt", "run", "--", "0")
-    planted(soak)
-    opposite(soak)
-    pim = own_program()
-    with tempfile.TemporaryDirectory() as folder:
-        judge = compiled(ROOT / "bench/judge.cpp", folder)
-        seed = random.randrange(2**32)
-        begin, scripts, count, why = time.monotonic(), 0, 0, None
-        lookers = subprocess.Popen([soak, str(SECONDS), str(seed)], stdout=subprocess.PIPE, text=True)
-        while time.monotonic() < begin + SECONDS and not why:
-            declared, steps = some_script(seed + scripts)
-            why = wrong(pim, judge, declared, steps)
-            count += len(steps) + sum(line.startswith("task ") for line in declared)
+class Soak(Case):
+    @classmethod
+    def setUpClass(cls):
+        cls.soak = soak()
+
+    def test_mistakes_in_a_run_are_found(self):
+        for seed in PLANTED_SEEDS:
+            self.equal(f"seed {seed}", said([self.soak, "planted", seed], ""), (0, PLANTED, ""))
+
+    def test_16_tasks_in_opposite_orders_beside_readers(self):
+        """Each of the 16 makes five steps, and each of 8 readers at least 1,000 reads."""
+        status, out, _ = said([self.soak, "opposite"], "")
+        found = re.fullmatch(r"1 scripts, 80 steps .*, ([0-9]+) looks .*, 0 differences\n", out)
+        self.assertTrue(status == 0 and found and int(found[1]) >= 8_000, f"status {status}, {out}")
+
+    def test_random_scripts_beside_readers(self):
+        pim, judge = program(), compiled(ROOT / "bench/judge.cpp", temporary_folder(self.addCleanup))
+        seed, scripts, why = random.randrange(2**32), 0, None
+        readers = subprocess.Popen([self.soak, str(SECONDS), str(seed)], stdout=subprocess.PIPE, text=True)
+        end = time.monotonic() + SECONDS
+        while time.monotonic() < end and not why:
+            why = wrong(pim, judge, *some_script(seed + scripts))
             scripts += 1
-        figures = said_of_reads(lookers)
-    name = f"scripts by pim run, {scripts} scripts, {count} steps, 0 differences"
-    check(name, f"seed {seed + scripts - 1}: {why}" if why else None)
-    why = wrong_figures(figures, lookers.returncode)
-    check(f"scripts beside lookers, {figures}", f"seed {seed}: {why}" if why else None)
-    end()
-
-
-main()
+        figures = said_of_reads(readers)
+        self.check(f"{scripts} scripts by pim run", f"seed {seed + scripts - 1}: {why}" if why else None)
+        why = wrong_figures(figures, readers.returncode)
+        self.check(f"by pim_soak: {figures}", f"seed {seed}: {why}" if why else None)

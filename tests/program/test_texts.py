@@ -1,16 +1,15 @@
-#!/usr/bin/env python3
-"""tests/program/test_texts.py [PROGRAM]: each prefix and each change of one byte of three small texts.
+"""Each prefix and each change of one byte of three small texts.
 
 The two traces, one of each version, go to `pim`, and the script goes to `pim check`. tests/program/reading.py
 says which line is the first invalid one. It is written after the pages, not after the code. Each
-prefix of a trace of suite/ goes to `pim`, and what some of them must give is worked by hand. Prints a line
-for each kind: 'ok NAME' or 'FAIL NAME: why'.
+prefix of a trace of suite/ goes to `pim`, and what some of them must give is worked by hand.
 """
 import concurrent.futures
 import os
 
-from tests.shared.checks import ROOT, answer, check, difference, end, program
+from tests.cases import Case
 from tests.program.reading import first_bad_line, lines_of
+from tests.shared.checks import ROOT, answer, difference, program
 
 TRACE = b"pim 1\ntask 1 10\nmutex 1 protect 20\n1 lock 1 = granted\n"
 SECOND = (
@@ -62,36 +61,46 @@ def accepted(text, script, got):
     return difference(got, want)
 
 
-def compare(name, texts, script):
-    whys = []
+class Texts(Case):
+    @classmethod
+    def setUpClass(cls):
+        cls.pim = program()
 
-    def compare_one(text):
-        # One difference is enough: with a program that hangs the others would take hours.
-        why = whys or accepted(text, script, last_line(pim, text, script))
-        if why and not whys:
-            whys.append(f"{text!r}: {why}")
+    def compare(self, texts, script=False):
+        """Gives each text to the program. One difference is enough: if the program hangs, the others would take hours."""
+        whys = []
 
-    with concurrent.futures.ThreadPoolExecutor(os.cpu_count()) as pool:
-        list(pool.map(compare_one, texts))
-    check(f"{name}, {len(texts)} texts", whys[0] if whys else None)
+        def compare_one(text):
+            why = whys or accepted(text, script, last_line(self.pim, text, script))
+            if why and not whys:
+                whys.append(f"{text!r}: {why}")
 
+        with concurrent.futures.ThreadPoolExecutor(os.cpu_count()) as pool:
+            list(pool.map(compare_one, texts))
+        self.check(f"{len(texts)} texts", whys[0] if whys else None)
 
-def worked_by_hand(pim):
-    """Returns what is wrong with the answer for one of these prefixes, or None."""
-    for length, said in BY_HAND.items():
-        _, out, err = last_line(pim, DONATION[:length], False)
-        if why := difference(((out + err).decode(),), (f"{said}\n",)):
-            return f"{length} bytes: {why}"
-    return None
+    def test_prefixes_worked_by_hand(self):
+        for length, said in BY_HAND.items():
+            _, out, err = last_line(self.pim, DONATION[:length], False)
+            self.equal(f"{length} bytes", ((out + err).decode(),), (f"{said}\n",))
 
+    def test_prefixes_of_a_trace_in_which_a_waiter_donates(self):
+        self.compare(prefixes(DONATION))
 
-pim = program()
-check(f"{len(BY_HAND)} prefixes, worked by hand", worked_by_hand(pim))
-compare("prefixes of a trace in which a waiter donates", prefixes(DONATION), False)
-compare("prefixes of a trace", prefixes(TRACE), False)
-compare("changes of a byte of a trace", changes(TRACE), False)
-compare("prefixes of a trace of version 2", prefixes(SECOND), False)
-compare("changes of a byte of a trace of version 2", changes(SECOND), False)
-compare("prefixes of a script", prefixes(SCRIPT), True)
-compare("changes of a byte of a script", changes(SCRIPT), True)
-end()
+    def test_prefixes_of_a_trace(self):
+        self.compare(prefixes(TRACE))
+
+    def test_changes_of_a_byte_of_a_trace(self):
+        self.compare(changes(TRACE))
+
+    def test_prefixes_of_a_trace_of_version_2(self):
+        self.compare(prefixes(SECOND))
+
+    def test_changes_of_a_byte_of_a_trace_of_version_2(self):
+        self.compare(changes(SECOND))
+
+    def test_prefixes_of_a_script(self):
+        self.compare(prefixes(SCRIPT), script=True)
+
+    def test_changes_of_a_byte_of_a_script(self):
+        self.compare(changes(SCRIPT), script=True)

@@ -9,7 +9,7 @@
 #include <sys/wait.h>
 #include <unistd.h>
 
-#include "../record/kernel/instance.h"
+#include "../../record/kernel/instance.h"
 
 static struct instance instance;
 

@@ -9,7 +9,7 @@
 #include <sys/resource.h>
 #include <unistd.h>
 
-#include "../record/kernel/text.h"
+#include "../../record/kernel/text.h"
 
 enum { NO_TASK = 4 << 20 };
 

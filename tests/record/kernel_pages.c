@@ -4,7 +4,7 @@
 #include <stdio.h>
 #include <string.h>
 
-#include "../record/kernel/events.h"
+#include "../../record/kernel/events.h"
 
 enum { PAGE = 4096, DATA = 16, PADDING = 29, TIME_EXTEND = 30, TIME_STAMP = 31 };
 

@@ -7,7 +7,7 @@ import re
 import struct
 import sys
 
-from tests.shared.checks import ROOT
+from tests.shared.checks import ROOT, made
 
 CHUNK_BYTES, TEXT_BYTES, VERSION_1 = 16384, 22, 4096
 
@@ -23,6 +23,17 @@ def module(path):
 
 
 reader = module(ROOT / "record/pim-log")
+
+
+def setUpModule():
+    """Builds the recorder, without a warning."""
+    made("record", "CFLAGS=-O2 -Werror")
+
+
+def broken(log):
+    """Returns the first law that a log breaks, or what its program did against POSIX, or None."""
+    checker = reader.Checker(log)
+    return next(iter(checker.run() + checker.remarks), None)
 
 
 def without_places(paths):

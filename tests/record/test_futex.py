@@ -1,13 +1,15 @@
-"""The part of tests/record about the waits of pim-record --kernel, and who ended them: record/FORMAT.md.
+"""The waits of pim-record --kernel, and who ended them: record/FORMAT.md.
 
-`python3 -m tests.record.test_futex` plays it alone, once the recorder is built. record/programs/futexes.c has the calls. It
-prints what it knows of each wait; the recording has exactly these, and no other wake.
+record/programs/futexes.c has the calls. It prints what it knows of each wait; the recording has
+exactly these, and no other wake.
 """
-import tempfile
 
-from tests.shared.checks import check, difference, end, skip
+from tests.cases import Case
+from tests.record.logs import setUpModule
+from tests.shared.checks import difference
 from tests.record.test_collector import without_imports
-from tests.record.test_kernel import PROGRAMS, RECORD, Tracefs, faults_of, kernel_text, pathlib, run
+from tests.record.test_kernel import (PROGRAMS, RECORD, Tracefs, faults_of, kernel_text, pathlib,
+                                      run)
 
 SKIPPED = 77
 ANY, NONE = "any", "none"
@@ -52,30 +54,23 @@ def differs(data, wanted):
     return "; ".join(faults_of(data)) or difference(got, wanted) or (f"{waits.strays}" if waits.strays else None)
 
 
-def all_ways(folder, options):
-    name = "the waits and the wakes are those of the program" + "".join(f", with {option}" for option in options)
-    path = pathlib.Path(folder, "run")
-    done = run(RECORD / "pim-record", "-o", path, *options, PROGRAMS / "futexes")
-    if done.returncode == SKIPPED:
-        return skip(name, done.stdout.strip())
-    if done.returncode or without_imports(done.stderr):
-        return check(name, f"status {done.returncode}: {done.stderr}")
-    wanted = said_waits(done.stdout.splitlines())
-    check(f"{name}: the program knows of 8", difference((len(wanted),), (8,)))
-    return check(name, differs(pathlib.Path(f"{path}.kernel").read_bytes(), wanted))
+class Futexes(Case):
+    def all_ways(self, folder, options):
+        name = "the waits and the wakes are those of the program" + "".join(f", with {option}" for option in options)
+        path = pathlib.Path(folder, "run")
+        done = run(RECORD / "pim-record", "-o", path, *options, PROGRAMS / "futexes")
+        if done.returncode == SKIPPED:
+            return self.skip(name, done.stdout.strip())
+        if done.returncode or without_imports(done.stderr):
+            return self.check(name, f"status {done.returncode}: {done.stderr}")
+        wanted = said_waits(done.stdout.splitlines())
+        self.equal(f"{name}: the program knows of 8", (len(wanted),), (8,))
+        self.check(name, differs(pathlib.Path(f"{path}.kernel").read_bytes(), wanted))
 
-
-def futexes(folder):
-    tracefs = Tracefs()
-    tracefs.end()
-    if tracefs.missing:
-        return skip("the waits of --kernel", tracefs.missing)
-    for options in (["--kernel-only"], ["--kernel"]):
-        all_ways(folder, options)
-    return None
-
-
-if __name__ == "__main__":
-    with tempfile.TemporaryDirectory() as place:
-        futexes(place)
-    end()
+    def test_waits_and_wakes_are_those_of_the_program(self):
+        tracefs = Tracefs()
+        tracefs.end()
+        if tracefs.missing:
+            return self.skip("the waits of --kernel", tracefs.missing)
+        for options in (["--kernel-only"], ["--kernel"]):
+            self.all_ways(self.folder, options)

@@ -1,8 +1,10 @@
-"""What tests/record does with record/generate, whose logs are what was asked for."""
+"""record/generate, whose logs are what was asked for."""
 import pathlib
 import struct
 
-from tests.shared.checks import ROOT, answer, check, difference
+from tests.cases import Case
+from tests.record.logs import broken, reader, setUpModule
+from tests.shared.checks import ROOT, answer, difference
 
 GENERATE = str(ROOT / "record/out/generate")
 THREADS, MUTEXES, RECORDS, PERCENT = 40, 200, 20000, 20
@@ -29,7 +31,7 @@ class Waits:
     does something else, and where a mutex goes to another than its waiter of the highest priority
     who waits longest."""
 
-    def __init__(self, reader, log):
+    def __init__(self, log):
         self.reader, self.faults = reader, []
         self.priority, self.owner, self.waiting = {}, {}, {}
         self.released, self.awaited = None, {}
@@ -74,7 +76,7 @@ class Waits:
             self.faults.append(f"record {record.number}: {got} in place of {wanted}")
 
 
-def numbers_of(reader, log):
+def numbers_of(log):
     """Returns threads, mutexes, how many of them are locked, whether there are enough records, and
     whether as many locks wait as was asked for."""
     events = [record.event for record in log.records]
@@ -85,7 +87,7 @@ def numbers_of(reader, log):
     return events.count(reader.THREAD), events.count(reader.INIT), len(locked), enough, near
 
 
-def kinds_of(reader, log):
+def kinds_of(log):
     """Returns how many threads are SCHED_OTHER, how many priorities the others have, how many
     mutexes each protocol has, and whether all but the first thread were created as they are."""
     threads, mutexes, created = ([record.detail for record in log.records if record.event == event]
@@ -95,7 +97,7 @@ def kinds_of(reader, log):
     return threads.count(0), len(priorities), protocols, created == threads[1:]
 
 
-def words_of(reader, log):
+def words_of(log):
     """Returns the names of the threads, the processes, and whether each place is in the code."""
     names = [record.text.decode() for record in log.records if record.event == reader.NAME]
     places = [record.object for record in log.records if record.event == reader.PLACE]
@@ -114,84 +116,76 @@ def unfilled(log):
             if count < 511 and chunk.index < last[chunk.thread]] or None
 
 
-def of_options(reader, broken, folder):
-    """A log of each option keeps the laws, and has what was asked for."""
-    path = pathlib.Path(folder, "run")
-    fault = generate(path, *OPTIONS)
-    check("a log is generated", fault)
-    if fault:
-        return
-    log = reader.Log(reader.used_bytes(path))
-    check("a generated log keeps the laws", broken(log) or next(iter(log.faults), None))
-    check("a generated log has what its options ask for",
-          difference(numbers_of(reader, log), (THREADS, MUTEXES, MUTEXES, True, True)))
-    check("the threads and mutexes of a generated log",
-          difference(kinds_of(reader, log), (10, 30, [67, 67, 66], True)))
-    names = [f"worker-{number}" for number in range(THREADS)]
-    check("the names and places of a generated log",
-          difference(words_of(reader, log), (names, {1000}, True)))
-    check("the chunks of a generated log are filled", unfilled(log))
-    head = log.head
-    got = head.known, head.process, head.parent, head.command, head.next_thread
-    check("the header of a generated log",
-          difference(got, (7, 1000, 999, ["generated"], THREADS + 1)))
-    with open(path, "rb") as file:
-        times_and_length = struct.unpack("<QQI", file.read(68)[48:])
-    wanted = 1_000_000_000, 1_700_000_000 * 10**9, len(b"generated\0")
-    check("when a generated log began", difference(times_and_length, wanted))
-    numbers = [record.number for record in log.raw]
-    check("a generated log has each number",
-          None if numbers == list(range(1, head.next_number)) else "numbers are missing")
-    waits = Waits(reader, log)
-    check("a thread of a generated log owns two mutexes at most",
-          difference((waits.most_owned,), (2,)))
-    check("a mutex of a generated log goes to its top waiter", next(iter(waits.faults), None))
-    left = [mutex for mutex, waiting in waits.waiting.items() if waiting] + list(waits.owner)
-    check("nobody owns or waits at the end of a generated log", left or None)
-    ends = [(record.event, record.how) for record in log.records[-THREADS:]]
-    wanted = [(reader.EXIT, 0)] * (THREADS - 1) + [(reader.END, 1)]
-    check("each thread of a generated log ends", difference((ends,), (wanted,)))
-    same(path, pathlib.Path(folder, "other"))
+class Generate(Case):
+    def test_a_log_of_each_option_keeps_the_laws(self):
+        """A log of each option keeps the laws, and has what was asked for."""
+        path = pathlib.Path(self.folder, "run")
+        fault = generate(path, *OPTIONS)
+        self.check("a log is generated", fault)
+        if fault:
+            return
+        log = reader.Log(reader.used_bytes(path))
+        self.check("a generated log keeps the laws", broken(log) or next(iter(log.faults), None))
+        self.check("a generated log has what its options ask for",
+                   difference(numbers_of(log), (THREADS, MUTEXES, MUTEXES, True, True)))
+        self.check("the threads and mutexes of a generated log",
+                   difference(kinds_of(log), (10, 30, [67, 67, 66], True)))
+        names = [f"worker-{number}" for number in range(THREADS)]
+        self.check("the names and places of a generated log",
+                   difference(words_of(log), (names, {1000}, True)))
+        self.check("the chunks of a generated log are filled", unfilled(log))
+        head = log.head
+        got = head.known, head.process, head.parent, head.command, head.next_thread
+        self.check("the header of a generated log",
+                   difference(got, (7, 1000, 999, ["generated"], THREADS + 1)))
+        with open(path, "rb") as file:
+            times_and_length = struct.unpack("<QQI", file.read(68)[48:])
+        wanted = 1_000_000_000, 1_700_000_000 * 10**9, len(b"generated\0")
+        self.equal("when a generated log began", times_and_length, wanted)
+        numbers = [record.number for record in log.raw]
+        self.check("a generated log has each number",
+                   None if numbers == list(range(1, head.next_number)) else "numbers are missing")
+        waits = Waits(log)
+        self.check("a thread of a generated log owns two mutexes at most",
+                   difference((waits.most_owned,), (2,)))
+        self.check("a mutex of a generated log goes to its top waiter", next(iter(waits.faults), None))
+        left = [mutex for mutex, waiting in waits.waiting.items() if waiting] + list(waits.owner)
+        self.check("nobody owns or waits at the end of a generated log", left or None)
+        ends = [(record.event, record.how) for record in log.records[-THREADS:]]
+        wanted = [(reader.EXIT, 0)] * (THREADS - 1) + [(reader.END, 1)]
+        self.equal("each thread of a generated log ends", (ends,), (wanted,))
+        self.same(path, pathlib.Path(self.folder, "other"))
 
+    def same(self, path, other):
+        """The same options give the same bytes, and another seed gives others."""
+        generate(other, *OPTIONS)
+        is_same = path.read_bytes() == other.read_bytes()
+        self.check("the same options generate the same log", None if is_same else "other bytes")
+        generate(other, *OPTIONS, "-s", 2)
+        is_same = path.read_bytes() == other.read_bytes()
+        self.check("another seed generates another log", "the same bytes" if is_same else None)
+        room, used = other.stat().st_size // MEGABYTE, other.stat().st_blocks * 512 // MEGABYTE
+        self.check("a generated log has room for 256 MB, and takes what it uses",
+                   None if room == 256 and used < 8 else f"{room} MB, {used} used")
 
-def same(path, other):
-    """The same options give the same bytes, and another seed gives others."""
-    generate(other, *OPTIONS)
-    is_same = path.read_bytes() == other.read_bytes()
-    check("the same options generate the same log", None if is_same else "other bytes")
-    generate(other, *OPTIONS, "-s", 2)
-    is_same = path.read_bytes() == other.read_bytes()
-    check("another seed generates another log", "the same bytes" if is_same else None)
-    room, used = other.stat().st_size // MEGABYTE, other.stat().st_blocks * 512 // MEGABYTE
-    check("a generated log has room for 256 MB, and takes what it uses",
-          None if room == 256 and used < 8 else f"{room} MB, {used} used")
+    def test_few_threads_or_mutexes(self):
+        """A log of few threads or mutexes is made, and so is one in which all locks wait."""
+        for options in FEW:
+            path = pathlib.Path(self.folder, "few")
+            fault = generate(path, "-n", 3000, *options)
+            self.check(f"generate {' '.join(map(str, options))}",
+                       fault or broken(reader.Log(reader.used_bytes(path))))
+        fault = generate(path, "-n", 3000, "-t", 4, "-c", 0)
+        log = reader.Log(reader.used_bytes(path))
+        waits = [record.number for record in log.records if record.event == reader.REQUEST]
+        self.check("no lock of a generated log waits", fault or waits or None)
 
-
-def few(reader, broken, folder):
-    """A log of few threads or mutexes is made, and so is one in which all locks wait."""
-    for options in FEW:
-        path = pathlib.Path(folder, "few")
-        fault = generate(path, "-n", 3000, *options)
-        check(f"generate {' '.join(map(str, options))}",
-              fault or broken(reader.Log(reader.used_bytes(path))))
-    fault = generate(path, "-n", 3000, "-t", 4, "-c", 0)
-    log = reader.Log(reader.used_bytes(path))
-    waits = [record.number for record in log.records if record.event == reader.REQUEST]
-    check("no lock of a generated log waits", fault or waits or None)
-
-
-def refused(folder):
-    """What can't be generated is refused with a line, and no log is written."""
-    path = pathlib.Path(folder, "none")
-    cases = {name: [*arguments, path] for name, arguments in REFUSED.items()}
-    cases |= {"no log": [], "a folder": [folder]}
-    for name, arguments in cases.items():
-        status, out, err = answer([GENERATE, *map(str, arguments)])
-        got = status, out, err != b"", path.exists()
-        check(f"generate refuses {name}", difference(got, (2, b"", True, False)))
-
-
-def generated(reader, broken, folder):
-    of_options(reader, broken, folder)
-    few(reader, broken, folder)
-    refused(folder)
+    def test_what_cannot_be_generated_is_refused(self):
+        """What can't be generated is refused with a line, and no log is written."""
+        path = pathlib.Path(self.folder, "none")
+        cases = {name: [*arguments, path] for name, arguments in REFUSED.items()}
+        cases |= {"no log": [], "a folder": [self.folder]}
+        for name, arguments in cases.items():
+            status, out, err = answer([GENERATE, *map(str, arguments)])
+            got = status, out, err != b"", path.exists()
+            self.equal(f"generate refuses {name}", got, (2, b"", True, False))

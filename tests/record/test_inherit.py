@@ -1,10 +1,11 @@
-"""What tests/record does with docs/FINDINGS.md: both forms of its mutexes compile, and inherit."""
+"""docs/FINDINGS.md: both forms of its mutexes compile, and inherit."""
 import pathlib
 import re
 import subprocess
 
-from tests.shared.checks import ROOT, answer, check, difference, skip
-from tests.record.logs import without_end
+from tests.cases import Case
+from tests.shared.checks import ROOT, answer
+from tests.record.logs import setUpModule, without_end
 
 PAGE = ROOT / "docs/FINDINGS.md"
 RECORD = ROOT / "record"
@@ -34,17 +35,17 @@ def protocols(lines):
     return found
 
 
-def inherit(folder):
-    if answer(["g++", "--version"])[0] != 0:
-        return skip("the mutexes of docs/FINDINGS.md", "g++ is missing")
-    why = compiled(folder)
-    check("the mutexes of docs/FINDINGS.md compile", why)
-    if why:
-        return None
-    status, out, err = answer([RECORD / "pim-record", "-o", f"{folder}/run", f"{folder}/inherits"])
-    check("a program with them is recorded", difference((status, out, without_end(err.decode())), (0, b"", "")))
-    status, out, _ = answer([RECORD / "pim-log", f"{folder}/run"])
-    text = out.decode()
-    wanted = {"init": {"inherit"}, "granted": {"inherit"}, "release": {"inherit"}}
-    check("they inherit", difference((status, protocols(text), text.count(" init ")), (0, wanted, 2)))
-    return None
+class Inherit(Case):
+    def test_the_mutexes_of_FINDINGS_inherit(self):
+        if answer(["g++", "--version"])[0] != 0:
+            return self.skip("the mutexes of docs/FINDINGS.md", "g++ is missing")
+        why = compiled(self.folder)
+        self.check("the mutexes of docs/FINDINGS.md compile", why)
+        if why:
+            return None
+        status, out, err = answer([RECORD / "pim-record", "-o", f"{self.folder}/run", f"{self.folder}/inherits"])
+        self.equal("a program with them is recorded", (status, out, without_end(err.decode())), (0, b"", ""))
+        status, out, _ = answer([RECORD / "pim-log", f"{self.folder}/run"])
+        text = out.decode()
+        wanted = {"init": {"inherit"}, "granted": {"inherit"}, "release": {"inherit"}}
+        self.equal("they inherit", (status, protocols(text), text.count(" init ")), (0, wanted, 2))

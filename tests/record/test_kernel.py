@@ -1,4 +1,4 @@
-"""What tests/record does with the kernel's events: recordings where the rights are, and stored and hand-made files."""
+"""The kernel's events: recordings where the rights are, and stored and hand-made files."""
 import fcntl
 import functools
 import os
@@ -13,10 +13,11 @@ import tempfile
 import time
 from unittest import mock
 
-from tests.shared.checks import (ROOT, SECONDS, check, children_of, difference, ended, is_gone, orphan_of, proc_text, skip, stat_of,
-                    until)
+from tests.cases import Case
+from tests.shared.checks import (ROOT, SECONDS, children_of, difference, ended, is_gone, orphan_of,
+                                 proc_text, stat_of, until)
 from tests.record.test_collector import run, without_imports
-from tests.record.logs import without_end
+from tests.record.logs import reader, setUpModule, without_end
 
 RECORD = ROOT / "record"
 PROGRAMS = RECORD / "out/programs"
@@ -67,7 +68,7 @@ class Tracefs:
 class Recording:
     """A run with --kernel in a folder, its log and its kernel's events."""
 
-    def __init__(self, reader, folder, *command, options=(), **how):
+    def __init__(self, folder, *command, options=(), **how):
         path = pathlib.Path(folder, "run")
         self.done = run(RECORD / "pim-record", "--kernel", "-o", path, *options, *command, **how)
         self.status = self.done.returncode
@@ -107,43 +108,6 @@ BOOSTS = {"inversion inherit": [("low", 10, 30), ("low", 30, 10)], "inversion no
           "chain": [("low", 10, 20), ("middle", 20, 30), ("low", 20, 30), ("low", 30, 10), ("middle", 30, 20)]}
 
 
-def boosts(reader, folder):
-    for command, wanted in BOOSTS.items():
-        recording = Recording(reader, folder, PROGRAMS / command.split()[0], *command.split()[1:])
-        fault = recording.fault()
-        told = None if fault else Told(recording.data)
-        if told and command == "chain":  # its threads have no names: they are created in this order
-            created = [r.object for r in recording.log.records if r.event == reader.THREAD][1:]
-            tasks = {r.object: r.chunk.task for r in recording.log.records if r.event == reader.THREAD}
-            told.names.update({tasks[self]: name for self, name in zip(created, ("low", "middle", "high"))})
-        check(f"the boosts are those of POSIX: {command}", fault or difference((told.boosts(),), (wanted,)))
-        if command == "inversion inherit" and not fault:
-            order(reader, recording.log, told)
-
-
-def order(reader, log, told):
-    """The kernel's events are between the log's records, for both have the same clock."""
-    request, = [r for r in log.records if r.event == reader.REQUEST]
-    granted, = [r for r in log.records if r.event == reader.GRANTED and r.chunk.thread == 3]
-    release, = [r for r in log.records if r.event == reader.RELEASE and r.chunk.thread == 2]
-    raised, lowered = told.of("setprio")
-    asked, = told.of("lock", "high")
-    unlocked, = told.of("unlock", "low")
-    returned = told.of("return", "high")[0]
-    times = [it.time for it in (request, asked, raised, release, unlocked, lowered, returned, granted)]
-    check("the kernel's events are between the log's records", None if times == sorted(times) else f"{times}")
-    mutexes = {asked.values[0], unlocked.values[0], f"{request.object:#x}"}
-    check("the kernel's mutex is the log's", None if len(mutexes) == 1 else f"{mutexes}")
-    between = [event for event in told.of("switch") if raised.time < event.time < lowered.time]
-    ran = {told.names.get(event.values[2]) for event in between}
-    first = between[0]
-    got = (told.names[first.task], first.values[0], first.values[1], told.names[first.values[2]], first.values[3])
-    check("high waits at 30, and low runs at 30", difference(got, ("high", 69, "S", "low", 69)))
-    check("medium doesn't run meanwhile", "it does" if "medium" in ran else None)
-    task = request.chunk.task
-    check("the kernel's tasks are the log's", difference((asked.task, raised.task), (task, task)))
-
-
 # ---- programs without a log
 
 SAYS_ITS_VARIABLES = """\
@@ -162,104 +126,6 @@ def compiled(folder, name, source, *flags):
     """Returns a program of this source, or None if it can't be made."""
     path = pathlib.Path(folder, name)
     return None if run("cc", "-O2", "-pthread", source, *flags, "-o", path).returncode else path
-
-
-def without_log(name, recording, wanted):
-    """The program ran, there is no log, the events keep the laws, and standard error has what is wanted."""
-    got = (recording.log, recording.done.stderr, recording.fault(recording.status))
-    return check(f"without a log: {name}", difference(got, (None, wanted, None)))
-
-
-def static_programs(reader, folder):
-    """A static program has no log, also where an earlier recording of the name has one."""
-    source = RECORD / "programs/inversion.c"
-    static = compiled(folder, "static", source, "-static")
-    if not static:
-        return skip("a static program with --kernel", "there is no static C library")
-    Recording(reader, folder, "true")
-    said = OTHERS.format(path=static, what="static")
-    recording = Recording(reader, folder, static, "inherit")
-    without_log("a static program", recording, said)
-    boosts = Told(recording.data).boosts() if recording.data else None
-    check("the boosts are those of POSIX: a static program", difference((recording.status, boosts),
-                                                                        (0, BOOSTS["inversion inherit"])))
-    only = Recording(reader, folder, static, "none", options=["--kernel-only"])
-    without_log("a static program with --kernel-only", only, "")
-    script = pathlib.Path(folder, "script")
-    script.write_text(f"#! {static} -x\n")
-    script.chmod(0o755)
-    without_log("a script of a static program", Recording(reader, folder, script), said)
-    two = pathlib.Path(folder, "two.c")
-    two.write_text(SAYS_ITS_VARIABLES)
-    recording = Recording(reader, folder, compiled(folder, "two", two, "-static"))
-    without_log("a static program with status 2", recording, OTHERS.format(path=f"{folder}/two", what="static"))
-    got = (recording.status, recording.done.stdout)
-    check("its status, and its environment", difference(got, (2, "")))
-    os.chmod(folder, 0o777)
-    user = lambda: os.setuid(65534)
-    if run(RECORD / "pim-record", "--help", preexec_fn=user).returncode:
-        return skip("a static program without the rights", "another user doesn't reach the recorder")
-    pathlib.Path(folder, "run.kernel").unlink()
-    recording = Recording(reader, folder, static, preexec_fn=user)
-    return nothing(recording, "a static program without the rights", 77, "needs root")
-
-
-def other_programs(reader, folder):
-    """Programs that are setuid or of another C library, and --kernel-only."""
-    source = RECORD / "programs/inversion.c"
-    setuid = compiled(folder, "setuid", source)
-    os.chown(setuid, 65534, 65534)
-    os.chmod(setuid, 0o4755)
-    what = "setuid or setgid"
-    without_log("a setuid program", Recording(reader, folder, setuid, "none"), OTHERS.format(path=setuid, what=what))
-    loader = pathlib.Path(folder, "loader")
-    name = re.search(r"interpreter: (.*)\]", run("readelf", "-l", PROGRAMS / "inversion").stdout)[1]
-    shutil.copy(name, loader)
-    other = compiled(folder, "other", source, f"-Wl,--dynamic-linker={loader}")
-    what = "of another C library than the recorder"
-    without_log("a program of another C library", Recording(reader, folder, other, "none"),
-                OTHERS.format(path=other, what=what))
-    Recording(reader, folder, "true")
-    only = ["--kernel-only"]
-    recording = Recording(reader, folder, PROGRAMS / "inversion", "inherit", options=only)
-    without_log("a program with --kernel-only", recording, "")
-    boosts = Told(recording.data).boosts() if recording.data else None
-    check("the boosts are those of POSIX: --kernel-only", difference((boosts,), (BOOSTS["inversion inherit"],)))
-    text = "echo [$LD_PRELOAD$PIM_RECORD$PIM_RECORD_BYTES$PIM_KERNEL$PIM_KERNEL_KB]; exit 2"
-    own = {**os.environ, "PIM_RECORD": f"{folder}/foreign", "PIM_RECORD_BYTES": "1"}
-    own.pop("LD_PRELOAD", None)
-    recording = Recording(reader, folder, "sh", "-c", text, options=only, env=own)
-    without_log("a program that ends with status 2", recording, "")
-    got = (recording.status, recording.done.stdout, pathlib.Path(folder, "foreign").exists())
-    check("its environment is the caller's", difference(got, (2, "[]\n", False)))
-    nothing(Recording(reader, folder, "./nowhere", options=only), "--kernel-only of no program", 127, "it isn't there")
-    done = run(RECORD / "pim-record", "--kernel-only", "-o", f"{folder}/only", "true")
-    left = sorted(path.name for path in pathlib.Path(folder).glob("only*"))
-    check("--kernel-only is enough", difference((done.returncode, left), (0, ["only.kernel"])))
-
-
-def random_program(reader, folder):
-    before = time.monotonic_ns()
-    recording = Recording(reader, folder, PROGRAMS / "random", "1", "100")
-    fault = recording.fault()
-    check("the laws hold of a recording: random", fault)
-    if fault:
-        return
-    text, log = kernel_text.KernelText(recording.data), recording.log
-    boosted = [event for event in text.events if event.what == "setprio"]
-    times = (before, text.head.began, log.head.began, boosted[0].time, boosted[-1].time, log.records[-1].time,
-             text.end[0], time.monotonic_ns())
-    check("its boosts are within the log's times", None if list(times) == sorted(times) else f"{times}")
-    mutexes = {f"{r.object:#x}" for r in log.records if r.event == reader.INIT}
-    # the C library tries such a call, too, before the log begins
-    locks = [what for what in kernel_text.CALLS if what != "wait"]
-    calls = [it for it in text.events if it.what in locks and it.time > log.records[0].time]
-    seen = {event.values[0] for event in calls}
-    check("its futexes are the log's mutexes", None if seen and seen <= mutexes else f"{seen} of {mutexes}")
-    tasks = {r.chunk.task for r in log.records}
-    callers = {event.task for event in calls}
-    check("who calls is a thread of the log", None if callers <= tasks else f"{callers - tasks}")
-    check("the file's process is the log's", difference((text.head.process,), (log.head.process,)))
 
 
 STARTED = []
@@ -284,14 +150,6 @@ def end_started():
             child.kill()
             ended(child)
     STARTED.clear()
-
-
-def play(attempt, tracefs, parts):
-    """Plays the parts, with their arguments. One that breaks off leaves the others as they are."""
-    for part, *arguments in parts:
-        attempt(part, *arguments)
-        end_started()
-        until(lambda: not tracefs.own())
 
 
 def first_line(child):
@@ -335,69 +193,6 @@ def program_of(child):
     return next((process for process, file in files.items() if file and not file.endswith("pim-launch")), None)
 
 
-def signals(folder, tracefs):
-    """Signals reach the program, and nothing is left."""
-    for number, status in ((signal.SIGINT, 5), (signal.SIGTERM, 5), (signal.SIGHUP, -signal.SIGHUP)):
-        child = started(folder, "sh", "-c", SAYS_AND_SLEEPS)
-        first_line(child)
-        there = len(tracefs.own())
-        child.send_signal(number)
-        got = (there, ended(child), child.stdout.read(), tracefs.own())
-        wanted = (1, status, "told\n" if status == 5 else "", [])
-        check(f"a recording that gets {number.name}", difference(got, wanted))
-        faults = faults_of(pathlib.Path(folder, "run.kernel").read_bytes())
-        check(f"its file is whole: {number.name}", "; ".join(faults))
-
-
-def killed(reader, folder, tracefs):
-    """Nothing is left by SIGKILL, and the next call removes what is left where the guard is killed, too."""
-    child = started(folder, "sh", "-c", SAYS_AND_SLEEPS)
-    program = int(first_line(child))
-    child.kill()
-    ended(child)
-    gone = until(lambda: not tracefs.own())
-    check("a recorder that is killed leaves no instance", None if gone else f"{tracefs.own()}")
-    check("nor the program", None if until(lambda: is_gone(program)) else "it runs on")
-    data = pathlib.Path(folder, "run.kernel").read_bytes()
-    faults = faults_of(data)
-    check("its file says that it isn't whole", difference((faults[-1:],), ([END_MISSING],)))
-    child = started(folder, "sh", "-c", SAYS_AND_SLEEPS)
-    program = int(first_line(child))
-    os.kill(guard_of(child.pid), signal.SIGKILL)
-    child.kill()
-    ended(child)
-    left = tracefs.own()
-    check("what a killed recorder and a killed guard leave", difference((len(left),), (1,)))
-    others(reader, folder, tracefs)
-
-
-def others(reader, folder, tracefs):
-    """The next call removes what is left, and no instance of another, nor of a process that is there."""
-    start = stat_of("self")[19]
-    gone = subprocess.Popen(["true"])
-    gone.wait()
-    ended_unseen = subprocess.Popen(["true"])
-    until(lambda: is_gone(ended_unseen.pid))
-    its = stat_of(ended_unseen.pid)[19]
-    kept = ["somebody", f"pim-record-{os.getpid()}-{start}", f"pim-record-{gone.pid}-1x", f"pim-record-0{gone.pid}-1",
-            f"pim-recorder-{gone.pid}-1"]
-    removed = [f"pim-record-{gone.pid}-1", f"pim-record-{os.getpid()}-1", f"pim-record-{ended_unseen.pid}-{its}"]
-    wanted = sorted(set(tracefs.all_but_others()) - set(tracefs.own()) | set(kept))
-    try:
-        for name in kept + removed:
-            (tracefs.instances / name).mkdir()
-        settings = tracefs.instances / "somebody/set_event"
-        settings.write_text("sched:sched_wakeup")
-        fault = Recording(reader, folder, "true").fault()
-        got = tracefs.all_but_others()
-        check("the next call removes what is left, and nothing else", fault or difference((got,), (wanted,)))
-        check("another's settings are kept", difference((settings.read_text(),), ("sched:sched_wakeup\n",)))
-    finally:
-        for name in kept + removed:
-            if (tracefs.instances / name).is_dir():
-                (tracefs.instances / name).rmdir()
-
-
 def guard_of(recorder):
     """Returns the process of a recording that removes the instance when the recorder is gone. It names itself."""
     found = lambda: [process for process in children_of(recorder) if proc_text(process, "comm") == "pim-guard\n"]
@@ -411,231 +206,10 @@ def pauses_of(process):
     return int(found[1]) if found else 0
 
 
-def guards(folder, tracefs):
-    """The guard isn't of the group that a shell kills, and removes the instance whatever becomes of the recorder."""
-    child = started(folder, PROGRAMS / "keys", start_new_session=True)
-    first_line(child)
-    os.killpg(child.pid, signal.SIGKILL)
-    ended(child)
-    gone = until(lambda: not tracefs.own())
-    check("a group that is killed leaves no instance", None if gone else f"{tracefs.own()}")
-    for name, number in (("killed", signal.SIGKILL), ("stopped", signal.SIGSTOP)):
-        child = started(folder, PROGRAMS / "keys")
-        program = int(first_line(child).split()[1][:-1])
-        os.kill(guard_of(child.pid), number)
-        child.send_signal(signal.SIGTERM)
-        got = (ended(child), tracefs.own())
-        check(f"a {name} guard leaves no instance", difference(got, (-signal.SIGTERM, [])))
-    child = started(folder, PROGRAMS / "keys")
-    first_line(child)
-    guard = guard_of(child.pid)
-    os.kill(guard, signal.SIGTERM)
-    child.kill()
-    ended(child)
-    gone = until(lambda: not tracefs.own() and is_gone(guard))
-    check("no other signal ends a guard", None if gone else f"{tracefs.own()}")
-
-
-def streams(folder, tracefs):
-    """Who waits for the end of the program's streams waits no longer than for the recorder and the program."""
-    text = f"{RECORD}/pim-record --kernel -o {folder}/run sh -c 'echo out; echo err >&2' 2>&1 | cat"
-    done = run("sh", "-c", text)
-    got = (done.returncode, without_end(done.stdout), done.stderr)
-    check("a pipe of both streams ends", difference(got, (0, "out\nerr\n", "")))
-    ours, its = os.pipe()
-    high = fcntl.fcntl(its, fcntl.F_DUPFD, 200)
-    child = started(folder, PROGRAMS / "keys", pass_fds=[its, high])
-    os.close(its)
-    os.close(high)
-    first_line(child)
-    guard = guard_of(child.pid)
-    instance, = tracefs.own()
-    with open(tracefs.instances / instance / "trace_pipe"):  # so the guard can't remove it
-        before = pauses_of(guard)
-        child.kill()
-        ended(child)
-        until(lambda: pauses_of(guard) > before + 1)  # it has tried, and pauses before it tries again
-        got = (child.stdout.read(), child.stderr.read(), os.read(ours, 1), is_gone(guard), tracefs.own())
-        check("a guard keeps no stream open", difference(got, ("", "", b"", False, [instance])))
-    check("it removes the instance when it can", None if until(lambda: not tracefs.own()) else "it doesn't")
-    os.close(ours)
-
-
-def adopted(folder):
-    """A recording that has ended leaves no process, dead or alive, to the one that adopts orphans."""
-    status, left, said = orphan_of(RECORD / "pim-record", "--kernel", "-o", f"{folder}/run", "true")
-    check("a recording leaves no process", difference((status, left, without_end(said)), (0, ["none"], "")))
-
-
-def settings(folder, tracefs):
-    """The instance has the settings of the recording, and the recorder runs at no real-time priority."""
-    fifo = lambda: os.sched_setscheduler(0, os.SCHED_FIFO, os.sched_param(5))
-    child = started(folder, PROGRAMS / "keys", preexec_fn=fifo)
-    program = first_line(child).split()[1][:-1]
-    instance, = tracefs.own()
-    names = ("buffer_size_kb", "set_event_pid", "tracing_on", "options/overwrite", "options/event-fork", "trace_clock")
-    got = [(tracefs.instances / instance / name).read_text().strip() for name in names]
-    kilobytes, *got, clock = got
-    wanted = [program, "1", "1", "1"]
-    why = None if "[mono]" in clock and 8192 <= int(kilobytes) < 8400 else f"{kilobytes} KB, clock {clock}"
-    check("the settings of an instance", difference(got, wanted) or why)
-    policies = [os.sched_getscheduler(int(process)) for process in (child.pid, program)]
-    check("the recorder leaves its real-time priority", difference(policies, (os.SCHED_OTHER, os.SCHED_FIFO)))
-    head = pathlib.Path(folder, "run.kernel").read_bytes()
-    check("the head is written as the program begins", None if head.startswith(b"pim-kernel 2\n") else f"{head[:80]}")
-    written = until(lambda: b" switch " in pathlib.Path(folder, "run.kernel").read_bytes())
-    check("events are written while the program runs", None if written else "none is")
-    child.terminate()
-    ended(child)
-
-
-def inherited(folder):
-    """The program has the signals of the caller; the recorder sees its end even if the caller ignores SIGCHLD."""
-    def change():
-        signal.signal(signal.SIGCHLD, signal.SIG_IGN)
-        signal.pthread_sigmask(signal.SIG_BLOCK, {signal.SIGUSR1})
-    # without pim-record and sh, for some shells reset both
-    paths = {"PIM_RECORD": f"{folder}/inherited", "PIM_KERNEL": f"{folder}/inherited.kernel"}
-    sizes = {"PIM_RECORD_BYTES": str(1 << 20), "PIM_KERNEL_KB": "1024"}
-    launch = [RECORD / "out/pim-launch", RECORD / "out/libpim_record.so"]
-    words = ["grep", "-sE", "Sig(Blk|Ign)", "/proc/self/status", "/nowhere"]
-    plain = run(*words, preexec_fn=change)
-    done = run(*launch, *words, preexec_fn=change, env={**os.environ, **paths, **sizes})
-    got = (done.returncode, done.stdout, done.stderr)
-    check("the program's signals are the caller's", difference(got, (2, plain.stdout, "")))
-
-
-def no_room(reader, folder):
-    """A file that may not grow isn't whole: standard error says so, and the program runs on."""
-    limit = lambda: resource.setrlimit(resource.RLIMIT_FSIZE, (1 << 20, 1 << 20))
-    no_file = lambda: resource.setrlimit(resource.RLIMIT_FSIZE, (0, 0))
-    words = (PROGRAMS / "random", "1", "2000")  # three megabytes of events, for which the kernel has room
-    recording = Recording(reader, folder, *words, options=["--size", "1"], preexec_fn=limit)
-    wanted = f"pim-record: {recording.file} isn't whole: File too large\n"
-    got = (recording.status, without_imports(recording.done.stderr), len(recording.data or b""))
-    check("a file beyond the limit of a file", difference(got, (0, wanted, 1 << 20)))
-    faults = [fault for fault in faults_of(recording.data) if fault != "the last line isn't whole"]
-    check("it is the beginning of a recording", difference((faults,), ([END_MISSING],)))
-    nothing(Recording(reader, folder, "echo", "it ran", preexec_fn=no_file), "a log that can't be made", 2,
-            "nothing was run")
-    path = pathlib.Path(folder, "n" * 250)
-    done = run(RECORD / "pim-record", "--kernel", "-o", path, "echo", "it ran")
-    wanted = f"pim-record: {path}.kernel: File name too long; nothing was run\n"
-    check("a file that can't be made", difference((done.returncode, done.stdout, done.stderr), (2, "", wanted)))
-
-
-def containers(reader, folder):
-    """In a namespace of processes nothing is run."""
-    space = ["unshare", "--pid", "--fork", "--mount-proc"]
-    if not shutil.which("unshare") or run(*space, "true").returncode:
-        return skip("--kernel in a container", "no namespace can be made")
-    done = run(*space, RECORD / "pim-record", "--kernel", "-o", f"{folder}/run", "echo", "it ran")
-    got = (done.returncode, done.stdout, "container" in done.stderr)
-    return check("--kernel in a container", difference(got, (77, "", True)))
-
-
-def mounted(folder):
-    """Where tracefs is mounted at its place, that mount is used; where it has no place, one that nobody sees."""
-    place, path = "/sys/kernel/tracing", f"{folder}/run"
-    text = f"mount -t tracefs none {place} && exec {RECORD}/pim-record --kernel -o {path} ls {place}/instances"
-    if not shutil.which("unshare") or run("unshare", "--mount", "mount", "-t", "tracefs", "none", place).returncode:
-        return skip("a tracefs that is mounted", "it can't be mounted aside")
-    done = run("unshare", "--mount", "sh", "-c", text)
-    got = (done.returncode, "pim-record-" in done.stdout, done.stderr)
-    check("a tracefs that is mounted", difference(got, (0, True, "")))
-    text = f"mount -t tmpfs none /sys/kernel && exec {RECORD}/pim-record --kernel -o {path} ls /sys/kernel"
-    done = run("unshare", "--mount", "sh", "-c", text)
-    why = difference((done.returncode, done.stdout, done.stderr), (0, "", ""))
-    faults = [] if why else faults_of(pathlib.Path(f"{path}.kernel").read_bytes())
-    return check("a tracefs that has no place", why or "; ".join(faults))
-
-
 def overwritten(instance):
     """Returns how many events an instance has overwritten, on all CPUs."""
     texts = [path.read_text() for path in instance.glob("per_cpu/cpu*/stats")]
     return sum(int(number) for text in texts for number in re.findall(r"^overrun: (\d+)$", text, re.M))
-
-
-def lost(folder, tracefs):
-    """A recorder that is held up until events are overwritten reports when and how many."""
-    waits = f"read line; exec {PROGRAMS}/random 1 4000"
-    child = started(folder, "sh", "-c", waits, options=["--buffer", "8"], stdin=subprocess.PIPE)
-    name = "a recording with lost events keeps the laws"
-    program = until(lambda: program_of(child))
-    if not program:
-        child.terminate()
-        check(name, f"no program was seen, status {ended(child)}: {child.stderr.read()}")
-        return
-    instance, = tracefs.own()
-    child.send_signal(signal.SIGSTOP)
-    until(lambda: stat_of(child.pid)[:1] == ["T"])
-    child.stdin.write("go\n")
-    child.stdin.flush()
-    until(lambda: overwritten(tracefs.instances / instance) or is_gone(program))
-    child.send_signal(signal.SIGCONT)
-    _, said = child.communicate(timeout=SECONDS)
-    text = kernel_text.KernelText(pathlib.Path(folder, "run.kernel").read_bytes())
-    told = text.lost()
-    count = sum(event.values[0] for event in told)
-    fault = next(iter(kernel_text.Checker(text).run()), None) or (None if count else "nothing is lost")
-    check(name, fault)
-    if not told:
-        return
-    first, last = min(event.values[1] for event in told), max(event.time for event in told)
-    times = [f"{(time - text.head.began) / 1e9:.6f}" for time in (first, last)]
-    wanted = f"pim-record: {count} of the kernel's events were lost, in {len(told)} stretches from {times[0]} s to" \
-             f" {times[1]} s; {folder}/run.kernel has each\n"
-    check("lost events are reported on standard error", difference((without_end(said),), (wanted,)))
-    done = run(RECORD / "pim-log", "--check", f"{folder}/run.kernel")
-    lines = [line for line in done.stdout.splitlines() if "events were lost, from" in line]
-    check("lost events are reported by --check", difference((done.returncode, len(lines)), (0, len(told))))
-
-
-def ends(reader, folder, tracefs):
-    """Status, streams and arguments are the program's; where nothing is run, nothing is left."""
-    text = 'printf "%s|" "$@"; cat; echo err >&2; exit 43'
-    recording = Recording(reader, folder, "sh", "-c", text, "a b", "", "c", input="input")
-    got = (recording.status, recording.done.stdout, recording.done.stderr)
-    check("with --kernel status and streams are the program's", difference(got, (43, "|c|input", "err\n")))
-    recording = Recording(reader, folder, "sh", "-c", "exit 2")
-    check("with --kernel a program may end with status 2", recording.fault(2))
-    recording = Recording(reader, folder, "sh", "-c", "echo $PIM_KERNEL$PIM_KERNEL_KB; kill -9 $$")
-    got = (recording.status, recording.done.stdout, recording.fault(-signal.SIGKILL))
-    check("with --kernel it ends by the program's signal", difference(got, (-signal.SIGKILL, "\n", None)))
-    busy = pathlib.Path(folder, "busy")
-    busy.write_bytes(pathlib.Path("/bin/true").read_bytes())
-    busy.chmod(0o755)
-    with open(busy, "r+b"):
-        nothing(Recording(reader, folder, busy), "a program that can't be executed", 126, "Text file busy")
-    nothing(Recording(reader, folder, "./nowhere"), "a program that isn't there", 127, "it isn't there")
-    nothing(Recording(reader, folder, "true", options=["--buffer", "many"]), "a buffer of letters", 2, "kilobytes")
-    nothing(Recording(reader, folder, "true", options=["--buffer=0"]), "a buffer of 0", 2, "kilobytes")
-    kept = pathlib.Path(folder, "run.kernel")
-    kept.write_text("a letter\n")
-    done = run(RECORD / "pim-record", "--kernel", "-o", f"{folder}/run", "echo", "it ran")
-    got = (done.returncode, done.stdout, kept.read_text())
-    check("a file that isn't a recording is kept", difference(got, (2, "", "a letter\n")))
-    kept.write_text("")
-    check("an empty file, of a recorder that was killed, is replaced", Recording(reader, folder, "true").fault())
-    kept.unlink()
-    check("no instance is left", difference((tracefs.own(),), ([],)))
-
-
-def nothing(recording, name, status, why):
-    """Nothing ran, no file was made, and one line says why."""
-    said = recording.done.stderr
-    got = (recording.status, recording.done.stdout, recording.data, said.count("\n"), why in said)
-    check(f"with --kernel: {name}", difference(got, (status, "", None, 1, True)) and f"{got[:2]} {said!r}")
-
-
-def without_rights(reader, folder):
-    """Another user has no rights: one line, status 77, nothing is run."""
-    os.chmod(folder, 0o777)
-    user = lambda: os.setuid(65534)
-    if run(RECORD / "pim-record", "--help", preexec_fn=user).returncode:
-        return skip("--kernel without the rights", "another user doesn't reach the recorder")
-    how = {"preexec_fn": user} if os.geteuid() == 0 else {}
-    return nothing(Recording(reader, folder, "echo", "it ran", **how), "without the rights", 77, "needs root")
 
 
 # ---- stored and hand-made files
@@ -818,52 +392,6 @@ def changed(pairs, text=BY_HAND):
     return text.encode()
 
 
-def by_hand(folder):
-    path = pathlib.Path(folder, "hand.kernel")
-    path.write_text(BY_HAND)
-    done = run(RECORD / "pim-log", path)
-    got = (done.returncode, done.stdout, done.stderr)
-    check("the lines of a kernel's file by hand", difference(got, (0, LINES, "")))
-    done = run(RECORD / "pim-log", "--check", path)
-    check("the count of a kernel's file by hand", difference((done.returncode, done.stdout), (0, COUNTED)))
-    for name, (old, new, why) in LAWS.items():
-        faults = faults_of(changed([(old, new)]))
-        check(f"a kernel's file with {name}", None if any(why in fault for fault in faults) else f"{faults}")
-    for name, (old, new, *more) in GOOD.items():
-        check(f"a kernel's file with {name}", "; ".join(faults_of(changed([(old, new), *more]))))
-    for name, (old, new, why) in HEADS.items():
-        path.write_bytes(changed([(old, new)]))
-        done = run(RECORD / "pim-log", "--check", path)
-        got = (done.returncode, done.stdout, why in done.stderr)
-        check(f"a kernel's file with {name}", difference(got, (2, "", True)))
-    path.write_bytes(changed(STRETCH))
-    done = run(RECORD / "pim-log", "--check", path)
-    told = ["CPU 1: 4 events were lost, from 0.000001500 to 0.000001600",
-            "0 faults in 7 events of 4 tasks: 3 switches, 1 set priorities, 3 of futex, 0 wakes; 4 lost; clock mono"]
-    check("a lost stretch is reported", difference((done.returncode, done.stdout.splitlines()), (0, told)))
-    words = {-1: "deadline", 0: "99", 98: "1", 99: "other", 100: "other", 139: "other"}
-    got = {priority: kernel_text.priority_word(priority) for priority in words}
-    check("priorities of POSIX", difference((got,), (words,)))
-    done = run(RECORD / "pim-log", "--check", cut_file(folder))
-    check("a file without its end has the status 1", difference((done.returncode, done.stderr), (1, "")))
-    shown = run(RECORD / "pim-log", path).stdout.splitlines()[3]
-    check("a lost stretch is printed", difference((shown,), ("0.000001600 cpu1 lost events=4 from=0.000001500",)))
-
-
-def waits_by_hand(folder):
-    path = pathlib.Path(folder, "waits.kernel")
-    path.write_text(WAITS_BY_HAND)
-    done = run(RECORD / "pim-log", path)
-    check("the lines of waits by hand", difference((done.returncode, done.stdout, done.stderr), (0, LINES_OF_WAITS, "")))
-    done = run(RECORD / "pim-log", "--check", path)
-    check("the count of waits by hand", difference((done.returncode, done.stdout), (0, COUNTED_WAITS)))
-    for name, (old, new, why) in LAWS_OF_WAITS.items():
-        faults = faults_of(changed([(old, new)], WAITS_BY_HAND))
-        check(f"a kernel's file with {name}", None if any(why in fault for fault in faults) else f"{faults}")
-    for name, (old, new, *more) in GOOD_WAITS.items():
-        check(f"a kernel's file with {name}", "; ".join(faults_of(changed([(old, new), *more], WAITS_BY_HAND))))
-
-
 def is_answered(data):
     """Reads, checks and prints what may be damaged. Returns whether a fault was found."""
     try:
@@ -879,29 +407,6 @@ def is_answered(data):
 def line_printed(event, head):
     """Returns the line of an event. Most events are those of the recording that was changed."""
     return kernel_text.line_of(event, head, {})
-
-
-def stored():
-    """A stored recording is whole; its prefixes are found to be cut, and changed bytes are answered: each of a small one,
-    and some 2,000 of a greater one. A line that was read and printed isn't read and printed again."""
-    read_once = mock.patch.object(kernel_text, "event_of", functools.lru_cache(maxsize=None)(kernel_text.event_of))
-    with read_once:
-        each_stored()
-    told = Told((STORED / "inversion.kernel").read_bytes())
-    check("stored: the boosts of inversion.kernel", difference((told.boosts(),), (BOOSTS["inversion inherit"],)))
-
-
-def each_stored():
-    for path in sorted(STORED.glob("*.kernel")):
-        data = path.read_bytes()
-        check(f"stored: {path.name} keeps the laws", "; ".join(faults_of(data)))
-        tried = range(0, len(data), max(1, len(data) // 2000))
-        whole = [length for length in tried if not is_answered(data[:length])]
-        check(f"stored: each prefix of {path.name} is found to be cut", f"not {whole[:5]}" if whole else None)
-        changed = (data[:at] + bytes([data[at] ^ change]) + data[at + 1:] for at in tried for change in (0x01, 0x80))
-        unseen = sum(not is_answered(text) for text in changed)
-        why = None if unseen < len(tried) else f"{unseen} unseen"
-        check(f"stored: each changed byte of {path.name} is answered", why)
 
 
 # ---- the kernel's pages
@@ -945,31 +450,6 @@ many: 15000 in order, 15000 lost
 """
 
 
-def printed(folder, name, source, parts, *arguments):
-    """Compiles a program with parts of the recorder. Returns the lines that it prints, or None after a failed check."""
-    made = pathlib.Path(folder, source)
-    flags = ["-std=c11", "-Wall", "-Wextra", "-Werror", "-fsanitize=address,undefined"]
-    sources = [ROOT / f"tests/{source}.c", *(RECORD / f"kernel/{part}.c" for part in parts)]
-    done = run("cc", *flags, *sources, "-o", made)
-    if not done.returncode:
-        done = run(made, *arguments, env={"ASAN_OPTIONS": "detect_leaks=0"})
-    if done.returncode or done.stderr:
-        return check(name, done.stderr[:300] or f"status {done.returncode}")
-    return done.stdout.splitlines()
-
-
-def are_lines(name, got, wanted):
-    if got is not None:
-        wanted = wanted.splitlines()
-        check(name, difference((*got, len(got)), (*wanted, len(wanted))))
-
-
-def pages(folder):
-    """Pages that are made by hand: times, kinds of events, what is cut, what was missed."""
-    name = "pages of the kernel's buffer"
-    are_lines(name, printed(folder, name, "kernel_pages", ["events", "instance"]), PAGES)
-
-
 # By instance.h: the room is of eight bytes.
 INSTANCE = """\
 a file: done
@@ -983,13 +463,6 @@ in two parts: done 'abcde'
 a folder: 1, there: 0
 one that is gone: 1
 """
-
-
-def instance(folder):
-    """Settings of an instance, in an ordinary folder."""
-    name = "settings of an instance"
-    with tempfile.TemporaryDirectory() as place:
-        are_lines(name, printed(folder, name, "kernel_instance", ["instance"], place), INSTANCE)
 
 
 # ---- the lines of events
@@ -1107,40 +580,520 @@ a file of 20 bytes, 5000 later: File too large
 """
 
 
-def lines(folder):
-    """Events that are made by hand, as lines."""
-    file = pathlib.Path(folder, "lines.kernel")
-    counts = printed(folder, "the lines of events", "kernel_lines", ["text"], file)
-    if counts is not None:
-        wanted = WRITTEN.format(release=os.uname().release, machine=os.uname().machine)
-        are_lines("the lines of events", file.read_text().splitlines(), wanted)
-        are_lines("the counts of events", counts, COUNTS_OF_LINES)
+class Checks(Case):
+    def nothing(self, recording, name, status, why):
+        """Nothing ran, no file was made, and one line says why."""
+        said = recording.done.stderr
+        got = (recording.status, recording.done.stdout, recording.data, said.count("\n"), why in said)
+        self.check(f"with --kernel: {name}", difference(got, (status, "", None, 1, True)) and f"{got[:2]} {said!r}")
 
 
-# ---- all
+class KernelEvents(Checks):
+    def setUp(self):
+        self.tracefs = Tracefs()
+        self.addCleanup(self.tracefs.end)
+        if self.tracefs.missing:
+            self.skipTest(self.tracefs.missing)
+        self.addCleanup(self.end_recordings)
 
-def kernel_files(folder):
-    by_hand(folder)
-    waits_by_hand(folder)
-    stored()
-    pages(folder)
-    instance(folder)
-    lines(folder)
+    def end_recordings(self):
+        """Ends what the test left, which leaves no instance."""
+        end_started()
+        until(lambda: not self.tracefs.own())
+        self.assertEqual(self.tracefs.own(), [])
+
+    def test_boosts_are_those_of_POSIX(self):
+        for command, wanted in BOOSTS.items():
+            recording = Recording(self.folder, PROGRAMS / command.split()[0], *command.split()[1:])
+            fault = recording.fault()
+            told = None if fault else Told(recording.data)
+            if told and command == "chain":  # its threads have no names: they are created in this order
+                created = [r.object for r in recording.log.records if r.event == reader.THREAD][1:]
+                tasks = {r.object: r.chunk.task for r in recording.log.records if r.event == reader.THREAD}
+                told.names.update({tasks[self]: name for self, name in zip(created, ("low", "middle", "high"))})
+            self.check(f"the boosts are those of POSIX: {command}", fault or difference((told.boosts(),), (wanted,)))
+            if command == "inversion inherit" and not fault:
+                self.order(recording.log, told)
+
+    def order(self, log, told):
+        """The kernel's events are between the log's records, for both have the same clock."""
+        request, = [r for r in log.records if r.event == reader.REQUEST]
+        granted, = [r for r in log.records if r.event == reader.GRANTED and r.chunk.thread == 3]
+        release, = [r for r in log.records if r.event == reader.RELEASE and r.chunk.thread == 2]
+        raised, lowered = told.of("setprio")
+        asked, = told.of("lock", "high")
+        unlocked, = told.of("unlock", "low")
+        returned = told.of("return", "high")[0]
+        times = [it.time for it in (request, asked, raised, release, unlocked, lowered, returned, granted)]
+        self.check("the kernel's events are between the log's records", None if times == sorted(times) else f"{times}")
+        mutexes = {asked.values[0], unlocked.values[0], f"{request.object:#x}"}
+        self.check("the kernel's mutex is the log's", None if len(mutexes) == 1 else f"{mutexes}")
+        between = [event for event in told.of("switch") if raised.time < event.time < lowered.time]
+        ran = {told.names.get(event.values[2]) for event in between}
+        first = between[0]
+        got = (told.names[first.task], first.values[0], first.values[1], told.names[first.values[2]], first.values[3])
+        self.equal("high waits at 30, and low runs at 30", got, ("high", 69, "S", "low", 69))
+        self.check("medium doesn't run meanwhile", "it does" if "medium" in ran else None)
+        task = request.chunk.task
+        self.equal("the kernel's tasks are the log's", (asked.task, raised.task), (task, task))
+
+    def without_log(self, name, recording, wanted):
+        """The program ran, there is no log, the events keep the laws, and standard error has what is wanted."""
+        got = (recording.log, recording.done.stderr, recording.fault(recording.status))
+        self.equal(f"without a log: {name}", got, (None, wanted, None))
+
+    def test_static_programs(self):
+        """A static program has no log, also where an earlier recording of the name has one."""
+        source = RECORD / "programs/inversion.c"
+        static = compiled(self.folder, "static", source, "-static")
+        if not static:
+            return self.skip("a static program with --kernel", "there is no static C library")
+        Recording(self.folder, "true")
+        said = OTHERS.format(path=static, what="static")
+        recording = Recording(self.folder, static, "inherit")
+        self.without_log("a static program", recording, said)
+        boosts = Told(recording.data).boosts() if recording.data else None
+        self.check("the boosts are those of POSIX: a static program", difference((recording.status, boosts),
+                                                                                 (0, BOOSTS["inversion inherit"])))
+        only = Recording(self.folder, static, "none", options=["--kernel-only"])
+        self.without_log("a static program with --kernel-only", only, "")
+        script = pathlib.Path(self.folder, "script")
+        script.write_text(f"#! {static} -x\n")
+        script.chmod(0o755)
+        self.without_log("a script of a static program", Recording(self.folder, script), said)
+        two = pathlib.Path(self.folder, "two.c")
+        two.write_text(SAYS_ITS_VARIABLES)
+        recording = Recording(self.folder, compiled(self.folder, "two", two, "-static"))
+        self.without_log("a static program with status 2", recording, OTHERS.format(path=f"{self.folder}/two", what="static"))
+        got = (recording.status, recording.done.stdout)
+        self.equal("its status, and its environment", got, (2, ""))
+        os.chmod(self.folder, 0o777)
+        user = lambda: os.setuid(65534)
+        if run(RECORD / "pim-record", "--help", preexec_fn=user).returncode:
+            return self.skip("a static program without the rights", "another user doesn't reach the recorder")
+        pathlib.Path(self.folder, "run.kernel").unlink()
+        recording = Recording(self.folder, static, preexec_fn=user)
+        self.nothing(recording, "a static program without the rights", 77, "needs root")
+
+    def test_setuid_programs_and_other_c_libraries(self):
+        """Programs that are setuid or of another C library, and --kernel-only."""
+        source = RECORD / "programs/inversion.c"
+        setuid = compiled(self.folder, "setuid", source)
+        os.chown(setuid, 65534, 65534)
+        os.chmod(setuid, 0o4755)
+        what = "setuid or setgid"
+        self.without_log("a setuid program", Recording(self.folder, setuid, "none"), OTHERS.format(path=setuid, what=what))
+        loader = pathlib.Path(self.folder, "loader")
+        name = re.search(r"interpreter: (.*)\]", run("readelf", "-l", PROGRAMS / "inversion").stdout)[1]
+        shutil.copy(name, loader)
+        other = compiled(self.folder, "other", source, f"-Wl,--dynamic-linker={loader}")
+        what = "of another C library than the recorder"
+        self.without_log("a program of another C library", Recording(self.folder, other, "none"),
+                         OTHERS.format(path=other, what=what))
+        Recording(self.folder, "true")
+        only = ["--kernel-only"]
+        recording = Recording(self.folder, PROGRAMS / "inversion", "inherit", options=only)
+        self.without_log("a program with --kernel-only", recording, "")
+        boosts = Told(recording.data).boosts() if recording.data else None
+        self.equal("the boosts are those of POSIX: --kernel-only", (boosts,), (BOOSTS["inversion inherit"],))
+        text = "echo [$LD_PRELOAD$PIM_RECORD$PIM_RECORD_BYTES$PIM_KERNEL$PIM_KERNEL_KB]; exit 2"
+        own = {**os.environ, "PIM_RECORD": f"{self.folder}/foreign", "PIM_RECORD_BYTES": "1"}
+        own.pop("LD_PRELOAD", None)
+        recording = Recording(self.folder, "sh", "-c", text, options=only, env=own)
+        self.without_log("a program that ends with status 2", recording, "")
+        got = (recording.status, recording.done.stdout, pathlib.Path(self.folder, "foreign").exists())
+        self.equal("its environment is the caller's", got, (2, "[]\n", False))
+        self.nothing(Recording(self.folder, "./nowhere", options=only), "--kernel-only of no program", 127, "it isn't there")
+        done = run(RECORD / "pim-record", "--kernel-only", "-o", f"{self.folder}/only", "true")
+        left = sorted(path.name for path in pathlib.Path(self.folder).glob("only*"))
+        self.equal("--kernel-only is enough", (done.returncode, left), (0, ["only.kernel"]))
+
+    def test_a_random_program_keeps_the_laws(self):
+        before = time.monotonic_ns()
+        recording = Recording(self.folder, PROGRAMS / "random", "1", "100")
+        fault = recording.fault()
+        self.check("the laws hold of a recording: random", fault)
+        if fault:
+            return
+        text, log = kernel_text.KernelText(recording.data), recording.log
+        boosted = [event for event in text.events if event.what == "setprio"]
+        times = (before, text.head.began, log.head.began, boosted[0].time, boosted[-1].time, log.records[-1].time,
+                 text.end[0], time.monotonic_ns())
+        self.check("its boosts are within the log's times", None if list(times) == sorted(times) else f"{times}")
+        mutexes = {f"{r.object:#x}" for r in log.records if r.event == reader.INIT}
+        # the C library tries such a call, too, before the log begins
+        locks = [what for what in kernel_text.CALLS if what != "wait"]
+        calls = [it for it in text.events if it.what in locks and it.time > log.records[0].time]
+        seen = {event.values[0] for event in calls}
+        self.check("its futexes are the log's mutexes", None if seen and seen <= mutexes else f"{seen} of {mutexes}")
+        tasks = {r.chunk.task for r in log.records}
+        callers = {event.task for event in calls}
+        self.check("who calls is a thread of the log", None if callers <= tasks else f"{callers - tasks}")
+        self.equal("the file's process is the log's", (text.head.process,), (log.head.process,))
+
+    def test_signals_reach_the_program(self):
+        """Signals reach the program, and nothing is left."""
+        for number, status in ((signal.SIGINT, 5), (signal.SIGTERM, 5), (signal.SIGHUP, -signal.SIGHUP)):
+            child = started(self.folder, "sh", "-c", SAYS_AND_SLEEPS)
+            first_line(child)
+            there = len(self.tracefs.own())
+            child.send_signal(number)
+            got = (there, ended(child), child.stdout.read(), self.tracefs.own())
+            wanted = (1, status, "told\n" if status == 5 else "", [])
+            self.equal(f"a recording that gets {number.name}", got, wanted)
+            faults = faults_of(pathlib.Path(self.folder, "run.kernel").read_bytes())
+            self.check(f"its file is whole: {number.name}", "; ".join(faults))
+
+    def test_nothing_is_left_by_SIGKILL(self):
+        """Nothing is left by SIGKILL, and the next call removes what is left where the guard is killed, too."""
+        child = started(self.folder, "sh", "-c", SAYS_AND_SLEEPS)
+        program = int(first_line(child))
+        child.kill()
+        ended(child)
+        gone = until(lambda: not self.tracefs.own())
+        self.check("a recorder that is killed leaves no instance", None if gone else f"{self.tracefs.own()}")
+        self.check("nor the program", None if until(lambda: is_gone(program)) else "it runs on")
+        data = pathlib.Path(self.folder, "run.kernel").read_bytes()
+        faults = faults_of(data)
+        self.equal("its file says that it isn't whole", (faults[-1:],), ([END_MISSING],))
+        child = started(self.folder, "sh", "-c", SAYS_AND_SLEEPS)
+        program = int(first_line(child))
+        os.kill(guard_of(child.pid), signal.SIGKILL)
+        child.kill()
+        ended(child)
+        left = self.tracefs.own()
+        self.equal("what a killed recorder and a killed guard leave", (len(left),), (1,))
+        self.others(self.folder, self.tracefs)
+
+    def others(self, folder, tracefs):
+        """The next call removes what is left, and no instance of another, nor of a process that is there."""
+        start = stat_of("self")[19]
+        gone = subprocess.Popen(["true"])
+        gone.wait()
+        ended_unseen = subprocess.Popen(["true"])
+        until(lambda: is_gone(ended_unseen.pid))
+        its = stat_of(ended_unseen.pid)[19]
+        kept = ["somebody", f"pim-record-{os.getpid()}-{start}", f"pim-record-{gone.pid}-1x", f"pim-record-0{gone.pid}-1",
+                f"pim-recorder-{gone.pid}-1"]
+        removed = [f"pim-record-{gone.pid}-1", f"pim-record-{os.getpid()}-1", f"pim-record-{ended_unseen.pid}-{its}"]
+        wanted = sorted(set(tracefs.all_but_others()) - set(tracefs.own()) | set(kept))
+        try:
+            for name in kept + removed:
+                (tracefs.instances / name).mkdir()
+            settings = tracefs.instances / "somebody/set_event"
+            settings.write_text("sched:sched_wakeup")
+            fault = Recording(folder, "true").fault()
+            got = tracefs.all_but_others()
+            self.check("the next call removes what is left, and nothing else", fault or difference((got,), (wanted,)))
+            self.equal("another's settings are kept", (settings.read_text(),), ("sched:sched_wakeup\n",))
+        finally:
+            for name in kept + removed:
+                if (tracefs.instances / name).is_dir():
+                    (tracefs.instances / name).rmdir()
+
+    def test_the_guard_removes_the_instance(self):
+        """The guard isn't of the group that a shell kills, and removes the instance whatever becomes of the recorder."""
+        child = started(self.folder, PROGRAMS / "keys", start_new_session=True)
+        first_line(child)
+        os.killpg(child.pid, signal.SIGKILL)
+        ended(child)
+        gone = until(lambda: not self.tracefs.own())
+        self.check("a group that is killed leaves no instance", None if gone else f"{self.tracefs.own()}")
+        for name, number in (("killed", signal.SIGKILL), ("stopped", signal.SIGSTOP)):
+            child = started(self.folder, PROGRAMS / "keys")
+            program = int(first_line(child).split()[1][:-1])
+            os.kill(guard_of(child.pid), number)
+            child.send_signal(signal.SIGTERM)
+            got = (ended(child), self.tracefs.own())
+            self.equal(f"a {name} guard leaves no instance", got, (-signal.SIGTERM, []))
+        child = started(self.folder, PROGRAMS / "keys")
+        first_line(child)
+        guard = guard_of(child.pid)
+        os.kill(guard, signal.SIGTERM)
+        child.kill()
+        ended(child)
+        gone = until(lambda: not self.tracefs.own() and is_gone(guard))
+        self.check("no other signal ends a guard", None if gone else f"{self.tracefs.own()}")
+
+    def test_who_waits_for_the_streams_waits_no_longer(self):
+        """Who waits for the end of the program's streams waits no longer than for the recorder and the program."""
+        text = f"{RECORD}/pim-record --kernel -o {self.folder}/run sh -c 'echo out; echo err >&2' 2>&1 | cat"
+        done = run("sh", "-c", text)
+        got = (done.returncode, without_end(done.stdout), done.stderr)
+        self.equal("a pipe of both streams ends", got, (0, "out\nerr\n", ""))
+        ours, its = os.pipe()
+        high = fcntl.fcntl(its, fcntl.F_DUPFD, 200)
+        child = started(self.folder, PROGRAMS / "keys", pass_fds=[its, high])
+        os.close(its)
+        os.close(high)
+        first_line(child)
+        guard = guard_of(child.pid)
+        instance, = self.tracefs.own()
+        with open(self.tracefs.instances / instance / "trace_pipe"):  # so the guard can't remove it
+            before = pauses_of(guard)
+            child.kill()
+            ended(child)
+            until(lambda: pauses_of(guard) > before + 1)  # it has tried, and pauses before it tries again
+            got = (child.stdout.read(), child.stderr.read(), os.read(ours, 1), is_gone(guard), self.tracefs.own())
+            self.equal("a guard keeps no stream open", got, ("", "", b"", False, [instance]))
+        self.check("it removes the instance when it can", None if until(lambda: not self.tracefs.own()) else "it doesn't")
+        os.close(ours)
+
+    def test_a_recording_leaves_no_process(self):
+        """A recording that has ended leaves no process, dead or alive, to the one that adopts orphans."""
+        status, left, said = orphan_of(RECORD / "pim-record", "--kernel", "-o", f"{self.folder}/run", "true")
+        self.equal("a recording leaves no process", (status, left, without_end(said)), (0, ["none"], ""))
+
+    def test_settings_of_the_instance(self):
+        """The instance has the settings of the recording, and the recorder runs at no real-time priority."""
+        fifo = lambda: os.sched_setscheduler(0, os.SCHED_FIFO, os.sched_param(5))
+        child = started(self.folder, PROGRAMS / "keys", preexec_fn=fifo)
+        program = first_line(child).split()[1][:-1]
+        instance, = self.tracefs.own()
+        names = ("buffer_size_kb", "set_event_pid", "tracing_on", "options/overwrite", "options/event-fork", "trace_clock")
+        got = [(self.tracefs.instances / instance / name).read_text().strip() for name in names]
+        kilobytes, *got, clock = got
+        wanted = [program, "1", "1", "1"]
+        why = None if "[mono]" in clock and 8192 <= int(kilobytes) < 8400 else f"{kilobytes} KB, clock {clock}"
+        self.check("the settings of an instance", difference(got, wanted) or why)
+        policies = [os.sched_getscheduler(int(process)) for process in (child.pid, program)]
+        self.equal("the recorder leaves its real-time priority", policies, (os.SCHED_OTHER, os.SCHED_FIFO))
+        head = pathlib.Path(self.folder, "run.kernel").read_bytes()
+        self.check("the head is written as the program begins", None if head.startswith(b"pim-kernel 2\n") else f"{head[:80]}")
+        written = until(lambda: b" switch " in pathlib.Path(self.folder, "run.kernel").read_bytes())
+        self.check("events are written while the program runs", None if written else "none is")
+        child.terminate()
+        ended(child)
+
+    def test_the_program_has_the_signals_of_the_caller(self):
+        """The program has the signals of the caller; the recorder sees its end even if the caller ignores SIGCHLD."""
+        def change():
+            signal.signal(signal.SIGCHLD, signal.SIG_IGN)
+            signal.pthread_sigmask(signal.SIG_BLOCK, {signal.SIGUSR1})
+        # without pim-record and sh, for some shells reset both
+        paths = {"PIM_RECORD": f"{self.folder}/inherited", "PIM_KERNEL": f"{self.folder}/inherited.kernel"}
+        sizes = {"PIM_RECORD_BYTES": str(1 << 20), "PIM_KERNEL_KB": "1024"}
+        launch = [RECORD / "out/pim-launch", RECORD / "out/libpim_record.so"]
+        words = ["grep", "-sE", "Sig(Blk|Ign)", "/proc/self/status", "/nowhere"]
+        plain = run(*words, preexec_fn=change)
+        done = run(*launch, *words, preexec_fn=change, env={**os.environ, **paths, **sizes})
+        got = (done.returncode, done.stdout, done.stderr)
+        self.equal("the program's signals are the caller's", got, (2, plain.stdout, ""))
+
+    def test_a_file_that_may_not_grow(self):
+        """A file that may not grow isn't whole: standard error says so, and the program runs on."""
+        limit = lambda: resource.setrlimit(resource.RLIMIT_FSIZE, (1 << 20, 1 << 20))
+        no_file = lambda: resource.setrlimit(resource.RLIMIT_FSIZE, (0, 0))
+        words = (PROGRAMS / "random", "1", "2000")  # three megabytes of events, for which the kernel has room
+        recording = Recording(self.folder, *words, options=["--size", "1"], preexec_fn=limit)
+        wanted = f"pim-record: {recording.file} isn't whole: File too large\n"
+        got = (recording.status, without_imports(recording.done.stderr), len(recording.data or b""))
+        self.equal("a file beyond the limit of a file", got, (0, wanted, 1 << 20))
+        faults = [fault for fault in faults_of(recording.data) if fault != "the last line isn't whole"]
+        self.equal("it is the beginning of a recording", (faults,), ([END_MISSING],))
+        self.nothing(Recording(self.folder, "echo", "it ran", preexec_fn=no_file), "a log that can't be made", 2,
+                     "nothing was run")
+        path = pathlib.Path(self.folder, "n" * 250)
+        done = run(RECORD / "pim-record", "--kernel", "-o", path, "echo", "it ran")
+        wanted = f"pim-record: {path}.kernel: File name too long; nothing was run\n"
+        self.equal("a file that can't be made", (done.returncode, done.stdout, done.stderr), (2, "", wanted))
+
+    def test_in_a_namespace_of_processes_nothing_is_run(self):
+        """In a namespace of processes nothing is run."""
+        space = ["unshare", "--pid", "--fork", "--mount-proc"]
+        if not shutil.which("unshare") or run(*space, "true").returncode:
+            return self.skip("--kernel in a container", "no namespace can be made")
+        done = run(*space, RECORD / "pim-record", "--kernel", "-o", f"{self.folder}/run", "echo", "it ran")
+        got = (done.returncode, done.stdout, "container" in done.stderr)
+        self.equal("--kernel in a container", got, (77, "", True))
+
+    def test_where_tracefs_is_mounted(self):
+        """Where tracefs is mounted at its place, that mount is used; where it has no place, one that nobody sees."""
+        place, path = "/sys/kernel/tracing", f"{self.folder}/run"
+        text = f"mount -t tracefs none {place} && exec {RECORD}/pim-record --kernel -o {path} ls {place}/instances"
+        if not shutil.which("unshare") or run("unshare", "--mount", "mount", "-t", "tracefs", "none", place).returncode:
+            return self.skip("a tracefs that is mounted", "it can't be mounted aside")
+        done = run("unshare", "--mount", "sh", "-c", text)
+        got = (done.returncode, "pim-record-" in done.stdout, done.stderr)
+        self.equal("a tracefs that is mounted", got, (0, True, ""))
+        text = f"mount -t tmpfs none /sys/kernel && exec {RECORD}/pim-record --kernel -o {path} ls /sys/kernel"
+        done = run("unshare", "--mount", "sh", "-c", text)
+        why = difference((done.returncode, done.stdout, done.stderr), (0, "", ""))
+        faults = [] if why else faults_of(pathlib.Path(f"{path}.kernel").read_bytes())
+        self.check("a tracefs that has no place", why or "; ".join(faults))
+
+    def test_overwritten_events_are_reported(self):
+        """A recorder that is held up until events are overwritten reports when and how many."""
+        waits = f"read line; exec {PROGRAMS}/random 1 4000"
+        child = started(self.folder, "sh", "-c", waits, options=["--buffer", "8"], stdin=subprocess.PIPE)
+        name = "a recording with lost events keeps the laws"
+        program = until(lambda: program_of(child))
+        if not program:
+            child.terminate()
+            self.check(name, f"no program was seen, status {ended(child)}: {child.stderr.read()}")
+            return
+        instance, = self.tracefs.own()
+        child.send_signal(signal.SIGSTOP)
+        until(lambda: stat_of(child.pid)[:1] == ["T"])
+        child.stdin.write("go\n")
+        child.stdin.flush()
+        until(lambda: overwritten(self.tracefs.instances / instance) or is_gone(program))
+        child.send_signal(signal.SIGCONT)
+        _, said = child.communicate(timeout=SECONDS)
+        text = kernel_text.KernelText(pathlib.Path(self.folder, "run.kernel").read_bytes())
+        told = text.lost()
+        count = sum(event.values[0] for event in told)
+        fault = next(iter(kernel_text.Checker(text).run()), None) or (None if count else "nothing is lost")
+        self.check(name, fault)
+        if not told:
+            return
+        first, last = min(event.values[1] for event in told), max(event.time for event in told)
+        times = [f"{(time - text.head.began) / 1e9:.6f}" for time in (first, last)]
+        wanted = f"pim-record: {count} of the kernel's events were lost, in {len(told)} stretches from {times[0]} s to" \
+             f" {times[1]} s; {self.folder}/run.kernel has each\n"
+        self.equal("lost events are reported on standard error", (without_end(said),), (wanted,))
+        done = run(RECORD / "pim-log", "--check", f"{self.folder}/run.kernel")
+        lines = [line for line in done.stdout.splitlines() if "events were lost, from" in line]
+        self.equal("lost events are reported by --check", (done.returncode, len(lines)), (0, len(told)))
+
+    def test_status_streams_and_arguments_are_those_of_the_program(self):
+        """Status, streams and arguments are the program's; where nothing is run, nothing is left."""
+        text = 'printf "%s|" "$@"; cat; echo err >&2; exit 43'
+        recording = Recording(self.folder, "sh", "-c", text, "a b", "", "c", input="input")
+        got = (recording.status, recording.done.stdout, recording.done.stderr)
+        self.equal("with --kernel status and streams are the program's", got, (43, "|c|input", "err\n"))
+        recording = Recording(self.folder, "sh", "-c", "exit 2")
+        self.check("with --kernel a program may end with status 2", recording.fault(2))
+        recording = Recording(self.folder, "sh", "-c", "echo $PIM_KERNEL$PIM_KERNEL_KB; kill -9 $$")
+        got = (recording.status, recording.done.stdout, recording.fault(-signal.SIGKILL))
+        self.equal("with --kernel it ends by the program's signal", got, (-signal.SIGKILL, "\n", None))
+        busy = pathlib.Path(self.folder, "busy")
+        busy.write_bytes(pathlib.Path("/bin/true").read_bytes())
+        busy.chmod(0o755)
+        with open(busy, "r+b"):
+            self.nothing(Recording(self.folder, busy), "a program that can't be executed", 126, "Text file busy")
+        self.nothing(Recording(self.folder, "./nowhere"), "a program that isn't there", 127, "it isn't there")
+        self.nothing(Recording(self.folder, "true", options=["--buffer", "many"]), "a buffer of letters", 2, "kilobytes")
+        self.nothing(Recording(self.folder, "true", options=["--buffer=0"]), "a buffer of 0", 2, "kilobytes")
+        kept = pathlib.Path(self.folder, "run.kernel")
+        kept.write_text("a letter\n")
+        done = run(RECORD / "pim-record", "--kernel", "-o", f"{self.folder}/run", "echo", "it ran")
+        got = (done.returncode, done.stdout, kept.read_text())
+        self.equal("a file that isn't a recording is kept", got, (2, "", "a letter\n"))
+        kept.write_text("")
+        self.check("an empty file, of a recorder that was killed, is replaced", Recording(self.folder, "true").fault())
+        kept.unlink()
+        self.equal("no instance is left", (self.tracefs.own(),), ([],))
 
 
-def kernel(attempt, reader, folder):
-    """Recordings with --kernel, where they can be made."""
-    without_rights(reader, folder)
-    tracefs = Tracefs()
-    try:
-        if tracefs.missing:
-            return skip("--kernel", tracefs.missing)
-        parts = ((boosts, reader, folder), (static_programs, reader, folder), (other_programs, reader, folder),
-                 (random_program, reader, folder), (ends, reader, folder, tracefs),
-                 (signals, folder, tracefs), (killed, reader, folder, tracefs), (guards, folder, tracefs),
-                 (streams, folder, tracefs), (adopted, folder), (settings, folder, tracefs), (inherited, folder),
-                 (no_room, reader, folder), (containers, reader, folder), (mounted, folder), (lost, folder, tracefs))
-        play(attempt, tracefs, parts)
-        return check("no instance of a recording is left", difference((tracefs.own(),), ([],)))
-    finally:
-        tracefs.end()
+class KernelFiles(Checks):
+    def test_without_rights_nothing_is_run(self):
+        """Another user has no rights: one line, status 77, nothing is run."""
+        os.chmod(self.folder, 0o777)
+        user = lambda: os.setuid(65534)
+        if run(RECORD / "pim-record", "--help", preexec_fn=user).returncode:
+            return self.skip("--kernel without the rights", "another user doesn't reach the recorder")
+        how = {"preexec_fn": user} if os.geteuid() == 0 else {}
+        self.nothing(Recording(self.folder, "echo", "it ran", **how), "without the rights", 77, "needs root")
+
+    def test_events_by_hand(self):
+        path = pathlib.Path(self.folder, "hand.kernel")
+        path.write_text(BY_HAND)
+        done = run(RECORD / "pim-log", path)
+        got = (done.returncode, done.stdout, done.stderr)
+        self.equal("the lines of a kernel's file by hand", got, (0, LINES, ""))
+        done = run(RECORD / "pim-log", "--check", path)
+        self.equal("the count of a kernel's file by hand", (done.returncode, done.stdout), (0, COUNTED))
+        for name, (old, new, why) in LAWS.items():
+            faults = faults_of(changed([(old, new)]))
+            self.check(f"a kernel's file with {name}", None if any(why in fault for fault in faults) else f"{faults}")
+        for name, (old, new, *more) in GOOD.items():
+            self.check(f"a kernel's file with {name}", "; ".join(faults_of(changed([(old, new), *more]))))
+        for name, (old, new, why) in HEADS.items():
+            path.write_bytes(changed([(old, new)]))
+            done = run(RECORD / "pim-log", "--check", path)
+            got = (done.returncode, done.stdout, why in done.stderr)
+            self.equal(f"a kernel's file with {name}", got, (2, "", True))
+        path.write_bytes(changed(STRETCH))
+        done = run(RECORD / "pim-log", "--check", path)
+        told = ["CPU 1: 4 events were lost, from 0.000001500 to 0.000001600",
+                "0 faults in 7 events of 4 tasks: 3 switches, 1 set priorities, 3 of futex, 0 wakes; 4 lost; clock mono"]
+        self.equal("a lost stretch is reported", (done.returncode, done.stdout.splitlines()), (0, told))
+        words = {-1: "deadline", 0: "99", 98: "1", 99: "other", 100: "other", 139: "other"}
+        got = {priority: kernel_text.priority_word(priority) for priority in words}
+        self.equal("priorities of POSIX", (got,), (words,))
+        done = run(RECORD / "pim-log", "--check", cut_file(self.folder))
+        self.equal("a file without its end has the status 1", (done.returncode, done.stderr), (1, ""))
+        shown = run(RECORD / "pim-log", path).stdout.splitlines()[3]
+        self.equal("a lost stretch is printed", (shown,), ("0.000001600 cpu1 lost events=4 from=0.000001500",))
+
+    def test_waits_by_hand(self):
+        path = pathlib.Path(self.folder, "waits.kernel")
+        path.write_text(WAITS_BY_HAND)
+        done = run(RECORD / "pim-log", path)
+        self.equal("the lines of waits by hand", (done.returncode, done.stdout, done.stderr), (0, LINES_OF_WAITS, ""))
+        done = run(RECORD / "pim-log", "--check", path)
+        self.equal("the count of waits by hand", (done.returncode, done.stdout), (0, COUNTED_WAITS))
+        for name, (old, new, why) in LAWS_OF_WAITS.items():
+            faults = faults_of(changed([(old, new)], WAITS_BY_HAND))
+            self.check(f"a kernel's file with {name}", None if any(why in fault for fault in faults) else f"{faults}")
+        for name, (old, new, *more) in GOOD_WAITS.items():
+            self.check(f"a kernel's file with {name}", "; ".join(faults_of(changed([(old, new), *more], WAITS_BY_HAND))))
+
+    def test_stored_recordings(self):
+        """A stored recording is whole; its prefixes are found to be cut, and changed bytes are answered: each of a small one,
+        and some 2,000 of a greater one. A line that was read and printed isn't read and printed again."""
+        read_once = mock.patch.object(kernel_text, "event_of", functools.lru_cache(maxsize=None)(kernel_text.event_of))
+        with read_once:
+            self.each_stored()
+        told = Told((STORED / "inversion.kernel").read_bytes())
+        self.equal("stored: the boosts of inversion.kernel", (told.boosts(),), (BOOSTS["inversion inherit"],))
+
+    def each_stored(self):
+        for path in sorted(STORED.glob("*.kernel")):
+            data = path.read_bytes()
+            self.check(f"stored: {path.name} keeps the laws", "; ".join(faults_of(data)))
+            tried = range(0, len(data), max(1, len(data) // 2000))
+            whole = [length for length in tried if not is_answered(data[:length])]
+            self.check(f"stored: each prefix of {path.name} is found to be cut", f"not {whole[:5]}" if whole else None)
+            changed = (data[:at] + bytes([data[at] ^ change]) + data[at + 1:] for at in tried for change in (0x01, 0x80))
+            unseen = sum(not is_answered(text) for text in changed)
+            why = None if unseen < len(tried) else f"{unseen} unseen"
+            self.check(f"stored: each changed byte of {path.name} is answered", why)
+
+    def printed(self, folder, name, source, parts, *arguments):
+        """Compiles a program with parts of the recorder. Returns the lines that it prints, or None after a failed check."""
+        made = pathlib.Path(folder, source)
+        flags = ["-std=c11", "-Wall", "-Wextra", "-Werror", "-fsanitize=address,undefined"]
+        sources = [ROOT / f"tests/{source}.c", *(RECORD / f"kernel/{part}.c" for part in parts)]
+        done = run("cc", *flags, *sources, "-o", made)
+        if not done.returncode:
+            done = run(made, *arguments, env={"ASAN_OPTIONS": "detect_leaks=0"})
+        if done.returncode or done.stderr:
+            return self.check(name, done.stderr[:300] or f"status {done.returncode}")
+        return done.stdout.splitlines()
+
+    def are_lines(self, name, got, wanted):
+        if got is not None:
+            wanted = wanted.splitlines()
+            self.equal(name, (*got, len(got)), (*wanted, len(wanted)))
+
+    def test_pages_by_hand(self):
+        """Pages that are made by hand: times, kinds of events, what is cut, what was missed."""
+        name = "pages of the kernel's buffer"
+        self.are_lines(name, self.printed(self.folder, name, "kernel_pages", ["events", "instance"]), PAGES)
+
+    def test_settings_in_an_ordinary_folder(self):
+        """Settings of an instance, in an ordinary folder."""
+        name = "settings of an instance"
+        with tempfile.TemporaryDirectory() as place:
+            self.are_lines(name, self.printed(self.folder, name, "kernel_instance", ["instance"], place), INSTANCE)
+
+    def test_events_as_lines(self):
+        """Events that are made by hand, as lines."""
+        file = pathlib.Path(self.folder, "lines.kernel")
+        counts = self.printed(self.folder, "the lines of events", "kernel_lines", ["text"], file)
+        if counts is not None:
+            wanted = WRITTEN.format(release=os.uname().release, machine=os.uname().machine)
+            self.are_lines("the lines of events", file.read_text().splitlines(), wanted)
+            self.are_lines("the counts of events", counts, COUNTS_OF_LINES)

@@ -1,11 +1,13 @@
-"""What tests/record does with the laws of record/FORMAT.md: logs by hand that keep them, and logs
-that break one, of which pim-log says just that."""
+"""The laws of record/FORMAT.md: logs by hand that keep them, and logs that break one, of which
+pim-log says just that.
+"""
 import pathlib
 import struct
 import tempfile
 
-from tests.shared.checks import ROOT, answer, check, difference
-from tests.record.logs import log_of
+from tests.cases import Case
+from tests.shared.checks import ROOT, answer, difference
+from tests.record.logs import log_of, reader, setUpModule
 
 THREAD, NAME, CREATE, EXIT, PRIORITY, FORK, CHILD, EXEC, EXEC_FAILED, END = range(1, 11)
 MODULE, PLACE, TEXT = range(11, 14)
@@ -134,130 +136,119 @@ DETAILS = {"bit 3": 0x2C, "two protocols": 0x64, "a ceiling without PROTECT": 0x
            "no kind": 0x20}
 
 
-def verdict(reader, data):
+def verdict(data):
     """Returns what pim-log --check says of a log."""
     checker = reader.Checker(reader.Log(data))
     return checker.run() + checker.remarks
 
 
-def laws(reader):
-    for name, rows in KEPT.items():
-        check(f"a law is kept: {name}", difference((verdict(reader, log_of_three(rows)),), ([],)))
-    for name, (rows, wanted) in BROKEN.items():
-        said = verdict(reader, log_of_three(rows))
-        check(f"just one law is broken: {name}", difference((said,), ([wanted],)))
+class Laws(Case):
+    def test_laws_that_are_kept_and_broken(self):
+        for name, rows in KEPT.items():
+            self.equal(f"a law is kept: {name}", (verdict(log_of_three(rows)),), ([],))
+        for name, (rows, wanted) in BROKEN.items():
+            said = verdict(log_of_three(rows))
+            self.equal(f"just one law is broken: {name}", (said,), ([wanted],))
 
+    def told(self, name, row, wanted):
+        """Checks that pim-log says this of the second record."""
+        said = verdict(log_of_three(start(1) + [row]))
+        self.check(name, None if f"record 2: {wanted}" in said else said or "nothing is said")
 
-def told(reader, name, row, wanted):
-    """Checks that pim-log says this of the second record."""
-    said = verdict(reader, log_of_three(start(1) + [row]))
-    check(name, None if f"record 2: {wanted}" in said else said or "nothing is said")
+    def test_a_field_is_one_that_there_is(self):
+        """A field of each event that has one is one of those that there are."""
+        for event in (REQUEST, GRANTED, RELEASE, INIT, CEILING):
+            for name, detail in DETAILS.items():
+                self.told(f"event {event} has no detail with {name}",
+                          (1, event, MUTEX, 0, detail, 0), f"a mutex has no detail {detail:#x}")
+        for event in (THREAD, CREATE, PRIORITY):
+            self.told(f"event {event} has no policy 4", (1, event, 1, 0, 4, 0),
+                      "there is no policy 4")
+        for event in (REQUEST, GRANTED, RELEASE):
+            for how in (5, 5 | OWNER_DIED):
+                self.told(f"event {event} has no call {how}", (1, event, MUTEX, 0, INHERIT, how),
+                          f"there is no call {how}")
+        for event, kinds in ((WAITS, (0, 6, 7)), (WAITED, (0, 6, 0x101)), (GIVE, (0, 3, 4, 5, 7))):
+            for kind in kinds:
+                self.told(f"event {event} has no kind {kind}", (1, event, 0x7000, 0, kind, 0), f"there is no kind {kind}")
+        for kind, how in ((SEMAPHORE, 1), (READ, 1), (SIGNAL, 2)):
+            self.told(f"nothing of kind {kind} is given to {how}", (1, GIVE, 0x7000, 0, kind, how),
+                      f"nothing is given to {how}")
+        for event in (EXEC_FAILED, DESTROY_FAILED, FAILED, RELEASE_FAILED):
+            self.told(f"event {event} has an error", (1, event, 0, 0, 0, 0),
+                      "it failed without an error")
 
+    def test_earlier_versions_have_waits_for_mutexes_alone(self):
+        """A log of an earlier version has no waits but those for mutexes."""
+        for event in (WAITS, WAITED, GIVE):
+            data = log_of_three(start(1) + [(1, event, 0x7000, 0, SEMAPHORE, 0)])
+            struct.pack_into("<I", data, 8, 2)
+            said = verdict(data)
+            self.equal(f"version 2 has no event {event}", (said,), ([f"record 2: there is no event {event}"],))
+        dropped = log_of_three(start(1) + waited(1))
+        struct.pack_into("<QQ", dropped, 232, 1, 900)
+        self.equal("a wait may have been dropped", (verdict(dropped),), ([],))
 
-def fields(reader):
-    """A field of each event that has one is one of those that there are."""
-    for event in (REQUEST, GRANTED, RELEASE, INIT, CEILING):
-        for name, detail in DETAILS.items():
-            told(reader, f"event {event} has no detail with {name}",
-                 (1, event, MUTEX, 0, detail, 0), f"a mutex has no detail {detail:#x}")
-    for event in (THREAD, CREATE, PRIORITY):
-        told(reader, f"event {event} has no policy 4", (1, event, 1, 0, 4, 0),
-             "there is no policy 4")
-    for event in (REQUEST, GRANTED, RELEASE):
-        for how in (5, 5 | OWNER_DIED):
-            told(reader, f"event {event} has no call {how}", (1, event, MUTEX, 0, INHERIT, how),
-                 f"there is no call {how}")
-    for event, kinds in ((WAITS, (0, 6, 7)), (WAITED, (0, 6, 0x101)), (GIVE, (0, 3, 4, 5, 7))):
-        for kind in kinds:
-            told(reader, f"event {event} has no kind {kind}", (1, event, 0x7000, 0, kind, 0), f"there is no kind {kind}")
-    for kind, how in ((SEMAPHORE, 1), (READ, 1), (SIGNAL, 2)):
-        told(reader, f"nothing of kind {kind} is given to {how}", (1, GIVE, 0x7000, 0, kind, how),
-             f"nothing is given to {how}")
-    for event in (EXEC_FAILED, DESTROY_FAILED, FAILED, RELEASE_FAILED):
-        told(reader, f"event {event} has an error", (1, event, 0, 0, 0, 0),
-             "it failed without an error")
+    def test_a_child_owns_what_its_fork_owned(self):
+        """A child owns what the thread of its fork owned, but for what is shared."""
+        born = FORKED + [(2, CHILD, 3, 1, 0, 0)]
+        freed = "the program unlocks mutex 0x5000, which its thread doesn't own"
+        twice = start(1) + lock(1, RECURSIVE) * 2 + FORKED + [(2, CHILD, 4, 1, 0, 0)]
+        others = start(1, 3) + lock(3) + FORKED + [(2, CHILD, 4, 1, 0, 0)]
+        cases = {
+            "its own": (start(1) + lock(1) + born + unlock(2) + unlock(1), []),
+            "twice locked": (twice + unlock(2, RECURSIVE) * 2, []),
+            "shared": (start(1) + lock(1, SHARED) + born + unlock(2, SHARED), [f"record 6: {freed}"]),
+            "another thread's": (others + unlock(2), [f"record 7: {freed}"]),
+            "of another parent": (start(1) + lock(1) + FORKED + [(2, CHILD, 3, 3, 0, 0)],
+                                  ["record 5: there is no such fork"]),
+        }
+        for name, (rows, wanted) in cases.items():
+            said = verdict(log_of_three(rows, processes={2: 200}))
+            self.equal(f"a child and a mutex, {name}", (said,), (wanted,))
 
+    def test_numbers_and_times(self):
+        """Numbers may be missing of each thread that was killed, times may be the same, and the chunks
+        of a thread name one."""
+        said = [verdict(log_of_three(start(1, 2, 3), missing=count)) for count in (3, 4)]
+        self.check("a number may be missing for each thread",
+                   difference(said, ([], ["4 numbers are missing"])))
+        said = verdict(log_of_three(start(1, 2), missing=-1))
+        self.check("a number is below the next",
+                   difference((said,), (["record 2: its number isn't below 2"],)))
+        lost = log_of_three(start(1, 2), missing=5)
+        struct.pack_into("<QQ", lost, 208, 6, 2)
+        self.check("numbers behind the first lost one may be missing",
+                   difference((verdict(lost),), ([],)))
+        same = log_of_three(start(1) + lock(1))
+        struct.pack_into("<Q", same, 4096 + 64 + 8, 1010)
+        self.equal("two records of a thread have a time", (verdict(same),), ([],))
+        for at, value, wanted in ((8, 100, []), (8, 101, ["thread 1: its chunks name several"]),
+                                  (12, 101, ["thread 1: its chunks name several"])):
+            data = log_of_three(start(1) + [(2, EXIT, 0, 0, 0, 0)])
+            struct.pack_into("<8sIIIIQ", data, 4096 + 16384, b"pimChunk", 100, 100, 1, 1, 0)
+            struct.pack_into("<I", data, 4096 + 16384 + at, value)
+            said = verdict(data)
+            self.equal(f"two chunks of a thread, {at} is {value}", (said,), (wanted,))
 
-def versions(reader):
-    """A log of an earlier version has no waits but those for mutexes."""
-    for event in (WAITS, WAITED, GIVE):
-        data = log_of_three(start(1) + [(1, event, 0x7000, 0, SEMAPHORE, 0)])
-        struct.pack_into("<I", data, 8, 2)
-        said = verdict(reader, data)
-        check(f"version 2 has no event {event}", difference((said,), ([f"record 2: there is no event {event}"],)))
-    dropped = log_of_three(start(1) + waited(1))
-    struct.pack_into("<QQ", dropped, 232, 1, 900)
-    check("a wait may have been dropped", difference((verdict(reader, dropped),), ([],)))
-
-
-def forks(reader):
-    """A child owns what the thread of its fork owned, but for what is shared."""
-    born = FORKED + [(2, CHILD, 3, 1, 0, 0)]
-    freed = "the program unlocks mutex 0x5000, which its thread doesn't own"
-    twice = start(1) + lock(1, RECURSIVE) * 2 + FORKED + [(2, CHILD, 4, 1, 0, 0)]
-    others = start(1, 3) + lock(3) + FORKED + [(2, CHILD, 4, 1, 0, 0)]
-    cases = {
-        "its own": (start(1) + lock(1) + born + unlock(2) + unlock(1), []),
-        "twice locked": (twice + unlock(2, RECURSIVE) * 2, []),
-        "shared": (start(1) + lock(1, SHARED) + born + unlock(2, SHARED), [f"record 6: {freed}"]),
-        "another thread's": (others + unlock(2), [f"record 7: {freed}"]),
-        "of another parent": (start(1) + lock(1) + FORKED + [(2, CHILD, 3, 3, 0, 0)],
-                              ["record 5: there is no such fork"]),
-    }
-    for name, (rows, wanted) in cases.items():
-        said = verdict(reader, log_of_three(rows, processes={2: 200}))
-        check(f"a child and a mutex, {name}", difference((said,), (wanted,)))
-
-
-def numbers(reader):
-    """Numbers may be missing of each thread that was killed, times may be the same, and the chunks
-    of a thread name one."""
-    said = [verdict(reader, log_of_three(start(1, 2, 3), missing=count)) for count in (3, 4)]
-    check("a number may be missing for each thread",
-          difference(said, ([], ["4 numbers are missing"])))
-    said = verdict(reader, log_of_three(start(1, 2), missing=-1))
-    check("a number is below the next",
-          difference((said,), (["record 2: its number isn't below 2"],)))
-    lost = log_of_three(start(1, 2), missing=5)
-    struct.pack_into("<QQ", lost, 208, 6, 2)
-    check("numbers behind the first lost one may be missing",
-          difference((verdict(reader, lost),), ([],)))
-    same = log_of_three(start(1) + lock(1))
-    struct.pack_into("<Q", same, 4096 + 64 + 8, 1010)
-    check("two records of a thread have a time", difference((verdict(reader, same),), ([],)))
-    for at, value, wanted in ((8, 100, []), (8, 101, ["thread 1: its chunks name several"]),
-                              (12, 101, ["thread 1: its chunks name several"])):
-        data = log_of_three(start(1) + [(2, EXIT, 0, 0, 0, 0)])
-        struct.pack_into("<8sIIIIQ", data, 4096 + 16384, b"pimChunk", 100, 100, 1, 1, 0)
-        struct.pack_into("<I", data, 4096 + 16384 + at, value)
-        said = verdict(reader, data)
-        check(f"two chunks of a thread, {at} is {value}", difference((said,), (wanted,)))
-
-
-def commands():
-    """pim-log --check says how many there are, and its status whether a law is broken."""
-    cut, posix = BROKEN["a text that is cut"], BROKEN["an unlock by another"]
-    cases = {"keeps the laws": (KEPT["a wait"], 0,
-                                ["0 faults in 6 records of 1 threads and 1 mutexes"]),
-             "breaks one": (cut[0], 1,
-                            [cut[1], "1 faults in 3 records of 1 threads and 1 mutexes"]),
-             "does what POSIX doesn't define":
-                 (posix[0], 0, [posix[1], "0 faults in 5 records of 2 threads and 1 mutexes"]),
-             "has a text": (start(1) + [(1, NAME, 0, 2, 0, 0), (1, TEXT, 0, 0, 0, 2)], 0,
-                            ["0 faults in 2 records of 1 threads and 0 mutexes"]),
-             "was full": (BOTH, 0, ["0 faults in 1 records of 1 threads and 0 mutexes",
-                                    "the log was full: 1 records are missing, from 2 on"])}
-    for name, (rows, *wanted) in cases.items():
-        with tempfile.TemporaryDirectory() as folder:
-            path, data = pathlib.Path(folder, "run"), log_of_three(rows)
-            struct.pack_into("<QQ", data, 208, *((1, 2) if name == "was full" else (0, 0)))
-            path.write_bytes(data)
-            status, out, _ = answer([str(ROOT / "record/pim-log"), "--check", str(path)])
-        got = status, out.decode().splitlines()
-        check(f"pim-log --check of a log that {name}", difference(got, wanted))
-
-
-def by_hand(reader):
-    for part in (laws, fields, versions, forks, numbers):
-        part(reader)
-    commands()
+    def test_check_counts_what_is_broken(self):
+        """pim-log --check says how many there are, and its status whether a law is broken."""
+        cut, posix = BROKEN["a text that is cut"], BROKEN["an unlock by another"]
+        cases = {"keeps the laws": (KEPT["a wait"], 0,
+                                    ["0 faults in 6 records of 1 threads and 1 mutexes"]),
+                 "breaks one": (cut[0], 1,
+                                [cut[1], "1 faults in 3 records of 1 threads and 1 mutexes"]),
+                 "does what POSIX doesn't define":
+                     (posix[0], 0, [posix[1], "0 faults in 5 records of 2 threads and 1 mutexes"]),
+                 "has a text": (start(1) + [(1, NAME, 0, 2, 0, 0), (1, TEXT, 0, 0, 0, 2)], 0,
+                                ["0 faults in 2 records of 1 threads and 0 mutexes"]),
+                 "was full": (BOTH, 0, ["0 faults in 1 records of 1 threads and 0 mutexes",
+                                        "the log was full: 1 records are missing, from 2 on"])}
+        for name, (rows, *wanted) in cases.items():
+            with tempfile.TemporaryDirectory() as folder:
+                path, data = pathlib.Path(folder, "run"), log_of_three(rows)
+                struct.pack_into("<QQ", data, 208, *((1, 2) if name == "was full" else (0, 0)))
+                path.write_bytes(data)
+                status, out, _ = answer([str(ROOT / "record/pim-log"), "--check", str(path)])
+            got = status, out.decode().splitlines()
+            self.equal(f"pim-log --check of a log that {name}", got, wanted)

@@ -1,10 +1,11 @@
-"""What tests/record does with record/pim-log and logs by hand: each event's line, and the edges of
-what the reader accepts."""
+"""record/pim-log and logs by hand: each event's line, and the edges of what the reader accepts."""
 import pathlib
 import struct
 import tempfile
 
-from tests.shared.checks import ROOT, answer, check, difference
+from tests.cases import Case
+from tests.record.logs import log_of, reader, setUpModule
+from tests.shared.checks import ROOT, answer, difference
 
 SHARED_ROBUST_PROTECT = 0x5AD6  # errorcheck, ceiling 90
 LINES = {  # thread, event, object, value, detail, how: what the line says behind the thread
@@ -62,101 +63,90 @@ HEADS = {"a field that is 0": (24, 1), "thread 0": (16, 0), "the thread behind t
 BEGIN = [(1, 1, 0x77, 0, 1 | 30 << 8, 0), (2, 1, 0x88, 0, 0, 0)]
 
 
-def lines(reader, written):
-    """The line of each event, by record/FORMAT.md and the help of pim-log."""
-    for name, (row, wanted) in LINES.items():
-        log = reader.Log(written([row]))
-        got = reader.line_of(log.records[0], log.head.began)
-        check(f"the line of {name}", difference((got,), (f"1 0.000000010 t{row[0]} {wanted}",)))
-    for text, wanted in TEXTS.items():
-        check(f"the text {text} in a line", difference((reader.quoted(text),), (wanted,)))
+class Lines(Case):
+    def test_the_line_of_each_event(self):
+        """The line of each event, by record/FORMAT.md and the help of pim-log."""
+        for name, (row, wanted) in LINES.items():
+            log = reader.Log(log_of([row]))
+            got = reader.line_of(log.records[0], log.head.began)
+            self.equal(f"the line of {name}", (got,), (f"1 0.000000010 t{row[0]} {wanted}",))
+        for text, wanted in TEXTS.items():
+            self.equal(f"the text {text} in a line", (reader.quoted(text),), (wanted,))
 
+    def test_parts_of_a_text(self):
+        """A part of a text has 22 bytes, or what is left, and stands behind a record with a text."""
+        name, granted = (1, 2, 0x77, 30, 0, 0), (1, 21, 0x5000, 2, 4, 0)
+        cases = {"behind no text": [granted, (1, 13, 0, 0, 0, 2)],
+                 "of no bytes": [(1, 2, 0, 0, 0, 0), (1, 13, 0, 0, 0, 0)],
+                 "too short": [name, (1, 13, 0, 0, 0, 3)],
+                 "too long": [(1, 2, 0, 2, 0, 0), (1, 13, 0, 0, 0, 3)]}
+        for case, rows in cases.items():
+            faults = reader.Log(log_of(rows)).faults
+            wanted = ["record 2: it is no part of a text"]
+            self.equal(f"a part of a text {case}", (faults,), (wanted,))
+        log = reader.Log(log_of([name, (1, 13, 0, 0, 0, 22), (1, 13, 0, 0, 0, 8)]))
+        self.check("a text of two parts", log.faults or difference((len(log.records[0].text),), (30,)))
 
-def texts(reader, written):
-    """A part of a text has 22 bytes, or what is left, and stands behind a record with a text."""
-    name, granted = (1, 2, 0x77, 30, 0, 0), (1, 21, 0x5000, 2, 4, 0)
-    cases = {"behind no text": [granted, (1, 13, 0, 0, 0, 2)],
-             "of no bytes": [(1, 2, 0, 0, 0, 0), (1, 13, 0, 0, 0, 0)],
-             "too short": [name, (1, 13, 0, 0, 0, 3)],
-             "too long": [(1, 2, 0, 2, 0, 0), (1, 13, 0, 0, 0, 3)]}
-    for case, rows in cases.items():
-        faults = reader.Log(written(rows)).faults
-        wanted = ["record 2: it is no part of a text"]
-        check(f"a part of a text {case}", difference((faults,), (wanted,)))
-    log = reader.Log(written([name, (1, 13, 0, 0, 0, 22), (1, 13, 0, 0, 0, 8)]))
-    check("a text of two parts", log.faults or difference((len(log.records[0].text),), (30,)))
+    def test_headers(self):
+        for name, fields in REFUSED.items():
+            try:
+                reader.Log(log_of(BEGIN, **fields))
+                self.check(f"a header is refused: {name}", "it is read")
+            except reader.NotALog:
+                self.check(f"a header is refused: {name}")
+        accepted = reader.Log(log_of(BEGIN, lost=1, first=2))
+        self.equal("the last number may be lost", (len(accepted.records),), (1,))
 
+    def test_which_chunks_are_read(self):
+        """Which chunks are read, and which heads are damaged."""
+        more = reader.Log(log_of(BEGIN, taken=3))
+        self.check("chunks without room aren't read", more.faults or difference((len(more.records),), (2,)))
+        fewer = reader.Log(log_of(BEGIN, taken=1))
+        self.check("chunks that aren't taken aren't read",
+                   fewer.faults or difference((len(fewer.records),), (1,)))
+        empty = reader.Log(log_of(BEGIN[:1]))
+        self.check("a chunk may be taken and not begun", empty.faults or None)
+        cut = reader.Log(bytes(log_of(BEGIN)[:2 * 16384]))
+        self.check("the file may end within a chunk",
+                   difference((cut.faults[:1],), (["the file ends within chunk 1 of 2"],)))
+        begun = log_of(BEGIN[:1])
+        struct.pack_into("<IIII", begun, 4096 + 16384 + 8, 100, 101, 2, 0)
+        self.check("the mark of a killed thread's chunk may be missing", reader.Log(begun).faults or None)
+        struct.pack_into("<Q", begun, 4096, 0)
+        damaged = {"records without a mark": begun}
+        for name, (at, value) in HEADS.items():
+            damaged[name] = log_of(BEGIN)
+            struct.pack_into("<I", damaged[name], 4096 + at, value)
+        for name, data in damaged.items():
+            faults, wanted = reader.Log(data).faults, ["the chunk at byte 4096 has no whole head"]
+            self.equal(f"a chunk's head: {name}", (faults,), (wanted,))
 
-def headers(reader, written):
-    for name, fields in REFUSED.items():
-        try:
-            reader.Log(written(BEGIN, **fields))
-            check(f"a header is refused: {name}", "it is read")
-        except reader.NotALog:
-            check(f"a header is refused: {name}")
-    accepted = reader.Log(written(BEGIN, lost=1, first=2))
-    check("the last number may be lost", difference((len(accepted.records),), (1,)))
+    def test_what_comes_first_and_last(self):
+        """pim-log begins with what the header says, and ends with what was lost."""
+        data = log_of(BEGIN, known=5, lost=1, first=2)
+        struct.pack_into("<I", data, 64, 6)
+        struct.pack_into("<Q", data, 224, 3)
+        data[256:262] = b"./p\0x\0"
+        with tempfile.TemporaryDirectory() as folder:
+            path = pathlib.Path(folder, "run")
+            path.write_bytes(data)
+            status, out, err = answer([str(ROOT / "record/pim-log"), str(path)])
+        wanted = ["# process 100, started by 50: './p x'",
+                  "# known of mutexes: kind, owner; left out: 3",
+                  "1 0.000000010 t1 thread process=100 task=100 self=0x77 policy=fifo priority=30",
+                  "# the log was full: 1 records are missing, from 2 on"]
+        got = status, err, out.decode().splitlines()
+        self.equal("what pim-log prints of a log by hand", got, (0, b"", wanted))
 
-
-def chunks(reader, written):
-    """Which chunks are read, and which heads are damaged."""
-    more = reader.Log(written(BEGIN, taken=3))
-    check("chunks without room aren't read", more.faults or difference((len(more.records),), (2,)))
-    fewer = reader.Log(written(BEGIN, taken=1))
-    check("chunks that aren't taken aren't read",
-          fewer.faults or difference((len(fewer.records),), (1,)))
-    empty = reader.Log(written(BEGIN[:1]))
-    check("a chunk may be taken and not begun", empty.faults or None)
-    cut = reader.Log(bytes(written(BEGIN)[:2 * 16384]))
-    check("the file may end within a chunk",
-          difference((cut.faults[:1],), (["the file ends within chunk 1 of 2"],)))
-    begun = written(BEGIN[:1])
-    struct.pack_into("<IIII", begun, 4096 + 16384 + 8, 100, 101, 2, 0)
-    check("the mark of a killed thread's chunk may be missing", reader.Log(begun).faults or None)
-    struct.pack_into("<Q", begun, 4096, 0)
-    damaged = {"records without a mark": begun}
-    for name, (at, value) in HEADS.items():
-        damaged[name] = written(BEGIN)
-        struct.pack_into("<I", damaged[name], 4096 + at, value)
-    for name, data in damaged.items():
-        faults, wanted = reader.Log(data).faults, ["the chunk at byte 4096 has no whole head"]
-        check(f"a chunk's head: {name}", difference((faults,), (wanted,)))
-
-
-def printed(written):
-    """pim-log begins with what the header says, and ends with what was lost."""
-    data = written(BEGIN, known=5, lost=1, first=2)
-    struct.pack_into("<I", data, 64, 6)
-    struct.pack_into("<Q", data, 224, 3)
-    data[256:262] = b"./p\0x\0"
-    with tempfile.TemporaryDirectory() as folder:
-        path = pathlib.Path(folder, "run")
-        path.write_bytes(data)
-        status, out, err = answer([str(ROOT / "record/pim-log"), str(path)])
-    wanted = ["# process 100, started by 50: './p x'",
-              "# known of mutexes: kind, owner; left out: 3",
-              "1 0.000000010 t1 thread process=100 task=100 self=0x77 policy=fifo priority=30",
-              "# the log was full: 1 records are missing, from 2 on"]
-    got = status, err, out.decode().splitlines()
-    check("what pim-log prints of a log by hand", difference(got, (0, b"", wanted)))
-
-
-def refused():
-    """What can't be read has one line that says why."""
-    with tempfile.TemporaryDirectory() as folder:
-        path = pathlib.Path(folder, "run")
-        missing = answer([str(ROOT / "record/pim-log"), str(path)])
-        path.write_bytes(b"pimlog\r\n")
-        short = answer([str(ROOT / "record/pim-log"), str(path)])
-    for name, got, why in (("a file that isn't there", missing, "No such file or directory"),
-                           ("the beginning of a log", short, "it isn't a log of pim-record,"
+    def test_what_cannot_be_read_has_one_line(self):
+        """What can't be read has one line that says why."""
+        with tempfile.TemporaryDirectory() as folder:
+            path = pathlib.Path(folder, "run")
+            missing = answer([str(ROOT / "record/pim-log"), str(path)])
+            path.write_bytes(b"pimlog\r\n")
+            short = answer([str(ROOT / "record/pim-log"), str(path)])
+        for name, got, why in (("a file that isn't there", missing, "No such file or directory"),
+                               ("the beginning of a log", short, "it isn't a log of pim-record,"
                             " or only the beginning of one")):
-        wanted = 2, b"", f"pim-log: {path}: {why}\n".encode()
-        check(f"pim-log says why it doesn't read {name}", difference(got, wanted))
-
-
-def by_hand(reader, written):
-    for part in (lines, texts, headers, chunks):
-        part(reader, written)
-    printed(written)
-    refused()
+            wanted = 2, b"", f"pim-log: {path}: {why}\n".encode()
+            self.equal(f"pim-log says why it doesn't read {name}", got, wanted)

@@ -1,16 +1,16 @@
-"""The part of tests/record about waits for what isn't a mutex, and about what ends them: record/FORMAT.md.
+"""Waits for what isn't a mutex, and about what ends them: record/FORMAT.md.
 
-`python3 -m tests.record.test_others` plays it alone, once the recorder is built. record/programs/others.c has the calls. It
-prints where its objects are, and what the calls returned. A thread sleeps before its wait is ended.
+record/programs/others.c has the calls. It prints where its objects are, and what the calls
+returned. A thread sleeps before its wait is ended.
 """
 import pathlib
 import shutil
 import sys
-import tempfile
 
-from tests.shared.checks import check, difference, end, skip
+from tests.cases import Case
+from tests.shared.checks import difference
 from tests.record.test_collector import RECORD, read, run, without_imports
-from tests.record.logs import reader
+from tests.record.logs import broken, setUpModule
 
 sys.path.insert(0, str(RECORD))
 import places_text
@@ -105,7 +105,7 @@ def line_names():
 
 def words_of(path, out, has_lines):
     """Returns the records of waits and gifts, in the order of their numbers, as words."""
-    log, names, texts = read(reader, path), line_names(), {}
+    log, names, texts = read(path), line_names(), {}
     objects = {int(at, 16): name for name, at in (line.split() for line in printed(out, "object"))}
     if has_lines:
         texts = {number: names.get(text.decode().partition(" ")[0]) for number, text in
@@ -119,47 +119,36 @@ def words_of(path, out, has_lines):
     return said
 
 
-def others(broken, folder):
-    """Each case, as it is, and with each way to keep the latest records."""
-    program, path = built(folder), pathlib.Path(folder, "run")
-    has_lines = any(map(shutil.which, places_text.SYMBOLIZERS))
-    if not has_lines:
-        skip("the lines of waits", "there is no addr2line")
-    for case, wanted in CASES.items():
-        wanted = wanted if has_lines else [line.rpartition(" ")[0] for line in wanted]
-        results = [line.strip() for line in RESULTS[case].split(",")]
-        check(f"what calls return unrecorded: {case}", difference(printed(run(program, case).stdout, "result"), results))
+class Others(Case):
+    def test_waits_and_what_ends_them(self):
+        """Each case, as it is, and with each way to keep the latest records."""
+        program, path = built(self.folder), pathlib.Path(self.folder, "run")
+        has_lines = any(map(shutil.which, places_text.SYMBOLIZERS))
+        if not has_lines:
+            self.skip("the lines of waits", "there is no addr2line")
+        for case, wanted in CASES.items():
+            wanted = wanted if has_lines else [line.rpartition(" ")[0] for line in wanted]
+            results = [line.strip() for line in RESULTS[case].split(",")]
+            self.check(f"what calls return unrecorded: {case}", difference(printed(run(program, case).stdout, "result"), results))
+            for name, options in OPTIONS.items():
+                done = run(RECORD / "pim-record", "-o", path, *options, program, case)
+                got = done.returncode, without_imports(done.stderr), *printed(done.stdout, "result")
+                self.equal(f"what calls return: {case}{name}", got, (0, "", *results))
+                said = words_of(path, done.stdout, has_lines)
+                if case == "waits":
+                    said[-2:] = sorted(said[-2:])
+                log = read(path)
+                self.check(f"waits and what ends them: {case}{name}", broken(log) or difference(
+                    (log.head.version, log.head.unplaced, *said), (3, 0, *wanted)))
+        self.storm(program, path)
+
+    def storm(self, program, path):
+        """Each post is put, or counted: in a handler that interrupts the recorder it isn't put."""
         for name, options in OPTIONS.items():
-            done = run(RECORD / "pim-record", "-o", path, *options, program, case)
-            got = done.returncode, without_imports(done.stderr), *printed(done.stdout, "result")
-            check(f"what calls return: {case}{name}", difference(got, (0, "", *results)))
-            said = words_of(path, done.stdout, has_lines)
-            if case == "waits":
-                said[-2:] = sorted(said[-2:])
-            log = read(reader, path)
-            check(f"waits and what ends them: {case}{name}", broken(log) or difference(
-                (log.head.version, log.head.unplaced, *said), (3, 0, *wanted)))
-    storm(broken, program, path)
-
-
-def storm(broken, program, path):
-    """Each post is put, or counted: in a handler that interrupts the recorder it isn't put."""
-    for name, options in OPTIONS.items():
-        done = run(RECORD / "pim-record", "-o", path, *options, program, "storm")
-        log, results = read(reader, path), [line.split() for line in printed(done.stdout, "result")]
-        put = sum(record.event == 28 for record in log.records)
-        (_, posts, _), (_, handled, is_handled) = results
-        is_whole = is_handled == "1" and int(posts) >= POSTS and int(handled) >= SIGNALLED
-        check(f"posts in handlers{name}", broken(log) or difference(
-            (done.returncode, is_whole, put + log.head.left_out), (0, True, int(posts) + int(handled))))
-
-
-def first_fault(log):
-    """Returns the first law that a log breaks, or None."""
-    return next(iter(reader.Checker(log).run()), None)
-
-
-if __name__ == "__main__":
-    with tempfile.TemporaryDirectory() as whole:
-        others(first_fault, whole)
-    end()
+            done = run(RECORD / "pim-record", "-o", path, *options, program, "storm")
+            log, results = read(path), [line.split() for line in printed(done.stdout, "result")]
+            put = sum(record.event == 28 for record in log.records)
+            (_, posts, _), (_, handled, is_handled) = results
+            is_whole = is_handled == "1" and int(posts) >= POSTS and int(handled) >= SIGNALLED
+            self.check(f"posts in handlers{name}", broken(log) or difference(
+                (done.returncode, is_whole, put + log.head.left_out), (0, True, int(posts) + int(handled))))

@@ -1,10 +1,14 @@
-"""What tests/record does with logs by hand of which the report must say whose a mutex was: what a REQUEST names, where its
-record may come before the GRANTED of the owner, and calls that lasted for longer than a record can say."""
+"""Logs by hand of which the report must say whose a mutex was: what a REQUEST names, where its
+record may come before the GRANTED of the owner, and calls that lasted for longer than a record can
+say.
+"""
 import pathlib
 
-from tests.shared.checks import check, difference
-from tests.record.test_laws import (CHILD, CONDITION, FORK, GRANTED, INHERIT, INIT, MUTEX, RELEASE, REQUEST, SATURATED,
-                         SHARED, THREAD, WAIT, log_of_three)
+from tests.cases import Case
+from tests.record.logs import setUpModule
+from tests.shared.checks import difference
+from tests.record.test_laws import (CHILD, CONDITION, FORK, GRANTED, INHERIT, INIT, MUTEX, RELEASE,
+                                    REQUEST, SATURATED, SHARED, THREAD, WAIT, log_of_three)
 from tests.record.test_report import Report
 
 NONE, OTHER, FIFO_10, FIFO_40, FIFO_80 = 4, 0, 0x0A01, 0x2801, 0x5001
@@ -95,29 +99,28 @@ def waits(found):
     return [(wait["lasted"], wait["owner"], wait["owner_level"], wait["inverted"] > 0) for wait in found.found["waits"]]
 
 
-def tell(folder, name, data, wanted):
-    """Checks the waits that are found in a log."""
-    log = pathlib.Path(folder, "hand")
-    log.write_bytes(data)
-    found = Report(log)
-    check(f"whose a mutex was: {name}", found.fault() or difference(waits(found), wanted))
-
-
-def forked(folder):
-    """A child's copy of a mutex names the thread of its parent, which isn't the owner."""
-    rows = begin(LOW, FIFO_10) + granted(LOW) + [(LOW, FORK, 0, 0, 0, 0)] + begin(HIGH, FIFO_80) \
-        + [(HIGH, CHILD, 3, LOW, 0, 0)] + asks(101) + once(HIGH)
-    tell(folder, "a child's copy of its parent's", log_of_three(rows, processes={1: 200}), [(10, UNKNOWN, 0, True)])
-
-
-def owners(folder):
-    for name, (rows, wanted) in OWNERS.items():
-        tell(folder, name, log_of_three(rows), wanted)
-    for name, (rows, seconds, wanted) in LONG.items():
-        times = [int(second * SECOND) for second in (*seconds, 10, 11)]
-        tell(folder, name, log_of_three(rows + once_long(), times=times), wanted)
-    forked(folder)
-
-
 def once_long():
     return granted(HIGH, SATURATED) + released(HIGH)
+
+
+class Owners(Case):
+    def tell(self, folder, name, data, wanted):
+        """Checks the waits that are found in a log."""
+        log = pathlib.Path(folder, "hand")
+        log.write_bytes(data)
+        found = Report(log)
+        self.check(f"whose a mutex was: {name}", found.fault() or difference(waits(found), wanted))
+
+    def forked(self, folder):
+        """A child's copy of a mutex names the thread of its parent, which isn't the owner."""
+        rows = begin(LOW, FIFO_10) + granted(LOW) + [(LOW, FORK, 0, 0, 0, 0)] + begin(HIGH, FIFO_80) \
+            + [(HIGH, CHILD, 3, LOW, 0, 0)] + asks(101) + once(HIGH)
+        self.tell(folder, "a child's copy of its parent's", log_of_three(rows, processes={1: 200}), [(10, UNKNOWN, 0, True)])
+
+    def test_whose_a_mutex_was(self):
+        for name, (rows, wanted) in OWNERS.items():
+            self.tell(self.folder, name, log_of_three(rows), wanted)
+        for name, (rows, seconds, wanted) in LONG.items():
+            times = [int(second * SECOND) for second in (*seconds, 10, 11)]
+            self.tell(self.folder, name, log_of_three(rows + once_long(), times=times), wanted)
+        self.forked(self.folder)

@@ -1,7 +1,6 @@
-"""The part of tests/record about pim-record --pid, which records the kernel's events of a program that runs already.
+"""pim-record --pid, which records the kernel's events of a program that runs already.
 
-`python3 -m tests.record.test_pid` plays it alone, once the recorder is built. What is waited for is seen in the instance, or
-said by the program: no check waits for a time.
+What is waited for is seen in the instance, or said by the program: no check waits for a time.
 """
 import ctypes
 import errno
@@ -12,12 +11,13 @@ import platform
 import re
 import signal
 import subprocess
-import tempfile
 
-from tests.shared.checks import check, difference, end, ended, proc_text, skip, stat_of, threads_of, until
+from tests.cases import Case
+from tests.shared.checks import difference, ended, proc_text, stat_of, threads_of, until
 from tests.record.test_futex import differs, said_waits
-from tests.record.logs import without_end
-from tests.record.test_kernel import PROGRAMS, RECORD, Tracefs, end_started, faults_of, kernel_text, play, run, start
+from tests.record.logs import setUpModule, without_end
+from tests.record.test_kernel import (PROGRAMS, RECORD, Tracefs, end_started, faults_of,
+                                      kernel_text, run, start)
 
 FUTEX = {"x86_64": 202, "aarch64": 98}  # the number of the call
 WAKE = 1
@@ -75,168 +75,6 @@ def wake_outside(path, process):
     return bool(asleep and woken)
 
 
-def attached(tracefs, folder):
-    """A program with threads, which waits and makes one more after the recording has begun, and goes on after it."""
-    words = pathlib.Path(folder, "words")
-    words.write_bytes(bytes(4))
-    program = started(PROGRAMS / "futexes", "attach", words)
-    check("attached: the program is ready", difference((program.stdout.readline(),), ("ready\n",)))
-    before = threads_of(program.pid)
-    status = proc_text(program.pid, "status")
-    recording = Attached(tracefs, folder, program.pid)
-    check("attached: the recording has begun", difference((recording.has_begun, recording.instances and True), (True, True)))
-    chosen = (tracefs.instances / recording.instances[0] / "set_event_pid").read_text().split()
-    check("attached: its threads are chosen", difference((set(map(int, chosen)), len(before)), (before, 3)))
-    traced = [line for line in proc_text(program.pid, "status").splitlines() if line.startswith("TracerPid")]
-    check("attached: the program isn't traced", difference((traced, "TracerPid:\t0" in status), (["TracerPid:\t0"], True)))
-    program.stdin.write("go\n")
-    program.stdin.flush()
-    said = [program.stdout.readline() for _ in range(4)]
-    outside = wake_outside(words, program.pid)
-    said += [program.stdout.readline() for _ in range(2)]
-    check("attached: the program did all", difference((said[3], outside, said[5]), ("outside\n", True, "done\n")))
-    recording.child.send_signal(signal.SIGINT)
-    check("attached: SIGINT ends the recording, not the program",
-          difference((*recording.end(), program.poll(), tracefs.own()), (0, "", None, [])))
-    waits_attached(recording, program, said)
-    program.stdin.write("go\n")
-    program.stdin.flush()
-    check("attached: the program ends as it would", difference((ended(program), program.stderr.read()), (0, "")))
-
-
-def waits_attached(recording, program, said):
-    """The waits are those that the program knows of; of the one that had begun before nothing is said."""
-    early, new = map(int, re.fullmatch(r"early (\d+) new (\d+)\n", said[0]).groups())
-    wanted = said_waits([*said[1:3], said[4]], outside=os.getpid())
-    check("attached: the waits and the wakes are those of the program", differs(recording.path.read_bytes(), wanted))
-    text = recording.text()
-    check("attached: the head has the process", difference((text.head.process, text.head.version), (program.pid, 2)))
-    of_early = {event.what for event in text.events if event.task == early and event.what in ("wait", "return")}
-    woken = {event.what for event in text.events if event.what == "wake" and event.values == (early,)}
-    ran = any(event.what == "switch" and event.task == early for event in text.events)
-    check("attached: a wait that had begun before", difference((of_early, woken, ran), (set(), set(), True)))
-    ran = any(event.what == "switch" and event.task == new for event in text.events)
-    check("attached: a thread that was made later is recorded", None if ran else f"{new} isn't")
-    done = run(RECORD / "pim-log", "--check", recording.path)
-    check("attached: pim-log --check", difference((done.returncode, done.stderr), (0, "")))
-
-
-def its_end(tracefs, folder):
-    """The recording ends with the program, also while the program's threads are looked for."""
-    program = sleeper()
-    recording = Attached(tracefs, folder, program.pid)
-    program.kill()
-    program.wait()
-    check("--pid of a program that ends", difference((*recording.end(), tracefs.own()), (0, "", [])))
-    check("the file of a program that ends is whole", "; ".join(faults_of(recording.path.read_bytes())))
-
-
-def times(tracefs, folder):
-    """--for ends it, no sooner; SIGTERM and SIGHUP do. The program goes on."""
-    program = sleeper()
-    for option, least in ((("--for", "300ms"), 300), (("--for=200000us",), 200), (("-f", "1s"), 1000)):
-        recording = Attached(tracefs, folder, program.pid, *option)
-        check(f"--pid with {' '.join(option)}", difference((*recording.end(), tracefs.own()), (0, "", [])))
-        text = recording.text()
-        took = (text.end[0] - text.head.began) / 1e6
-        check("it takes as long", None if least <= took else f"{took} ms")
-    for number in (signal.SIGTERM, signal.SIGHUP):
-        recording = Attached(tracefs, folder, program.pid, "--for", "2m")
-        recording.child.send_signal(number)
-        check(f"{number.name} ends it", difference((*recording.end(), tracefs.own()), (0, "", [])))
-        check("its file is whole", "; ".join(faults_of(recording.path.read_bytes())))
-    ignores(tracefs, folder, program)
-    check("the program goes on", difference((program.poll(),), (None,)))
-    program.kill()
-
-
-def ignores(tracefs, folder, program):
-    """What nohup or the & of a script has ignored doesn't end it: SIGTERM does."""
-    def ignore():
-        for number in (signal.SIGHUP, signal.SIGINT):
-            signal.signal(number, signal.SIG_IGN)
-    recording = Attached(tracefs, folder, program.pid, "--for", "1s", preexec_fn=ignore)
-    for number in (signal.SIGHUP, signal.SIGINT):
-        recording.child.send_signal(number)
-    got = (*recording.end(), (recording.text().end[0] - recording.text().head.began) >= 10**9)
-    check("signals that are ignored don't end it", difference(got, (0, "", True)))
-    recording = Attached(tracefs, folder, program.pid, "--for", "2m", preexec_fn=ignore)
-    recording.child.send_signal(signal.SIGTERM)
-    check("SIGTERM ends it then", difference((*recording.end(), tracefs.own()), (0, "", [])))
-
-
-def killed(tracefs, folder):
-    """SIGKILL leaves no instance, and the program goes on."""
-    program = sleeper()
-    recording = Attached(tracefs, folder, program.pid)
-    there = len(recording.instances)
-    recording.child.kill()
-    ended(recording.child)
-    gone = until(lambda: not tracefs.own())
-    check("--pid that is killed leaves no instance", difference((there, gone, program.poll()), (1, True, None)))
-    check("its file says that it isn't whole", None if faults_of(recording.path.read_bytes()) else "it doesn't")
-    again = Attached(tracefs, folder, program.pid, "--for", "1ms")
-    check("what it left is replaced", difference((*again.end(), faults_of(again.path.read_bytes())), (0, "", [])))
-    program.kill()
-
-
-def many_threads(tracefs, folder):
-    """Threads that make threads while the recording is attached are all chosen."""
-    program = started(PROGRAMS / "spawns")
-    program.stdout.readline()
-    recording = Attached(tracefs, folder, program.pid, "--buffer", "32768")
-    chosen = lambda: set(map(int, (tracefs.instances / recording.instances[0] / "set_event_pid").read_text().split()))
-    there = threads_of(program.pid)
-    left = there - chosen() & threads_of(program.pid)
-    # a thread that has just been made may be so for a moment
-    is_chosen = until(lambda: not left & threads_of(program.pid) - chosen())
-    check("the threads of a program that makes threads are chosen", None if is_chosen else f"not {left}")
-    program.kill()
-    program.wait()
-    check("--pid of a program that makes threads", difference((*recording.end(), tracefs.own()), (0, "", [])))
-
-
-def names(folder):
-    """NAME.kernel alone is written, by the default name, too; what was a recording is replaced, and nothing else."""
-    program = sleeper()
-    before = (pathlib.Path(folder, "run"), pathlib.Path(folder, "run.kernel"))
-    run(RECORD / "pim-record", "--kernel", "-o", before[0], "true")
-    there = [path.read_bytes() for path in before]
-    attached_again = RECORD / "pim-record", "-p", program.pid, "-f", "1ms", "-o", before[0]
-    done = run(*attached_again)
-    got = done.returncode, " is there: --pid writes no log" in done.stderr, [path.read_bytes() for path in before]
-    check("--pid leaves a log of its name alone", difference(got, (2, True, there)))
-    before[0].unlink()
-    done = run(*attached_again)
-    now = before[1].read_bytes()
-    got = (done.returncode, done.stderr, before[0].exists(), now == there[1], faults_of(now))
-    check("--pid replaces the kernel's events", difference(got, (0, "", False, False, [])))
-    empty = pathlib.Path(folder, "empty")
-    empty.mkdir()
-    done = run(RECORD / "pim-record", "--pid", program.pid, "--for", "1ms", cwd=empty)
-    name = f"sleep.{program.pid}.pimlog.kernel"
-    got = (done.returncode, f"pim-record: {name} is kept; " in done.stderr, [path.name for path in empty.iterdir()])
-    check("the default name", difference(got, (0, True, [name])))
-    before[1].write_text("a letter\n")
-    done = run(RECORD / "pim-record", "--pid", program.pid, "--for", "1ms", "-o", before[0])
-    got = (done.returncode, "isn't a recording; nothing was recorded" in done.stderr, before[1].read_text())
-    check("another file is kept", difference(got, (2, True, "a letter\n")))
-    program.kill()
-
-
-def without_rights(folder):
-    """Another user has no rights: one line, and status 77."""
-    os.chmod(folder, 0o777)
-    user = lambda: os.setuid(65534)
-    if run(RECORD / "pim-record", "--help", preexec_fn=user).returncode:
-        return skip("--pid without the rights", "another user doesn't reach the recorder")
-    how = {"preexec_fn": user} if os.geteuid() == 0 else {}
-    done = run(RECORD / "pim-record", "--pid", os.getpid(), "-o", f"{folder}/none", **how)
-    said = (done.stderr.count("\n"), done.stderr.startswith("pim-record: --pid needs root"), "was recorded" in done.stderr)
-    got = (done.returncode, done.stdout, *said, os.path.exists(f"{folder}/none.kernel"))
-    return check("--pid without the rights", difference(got, (77, "", 1, True, True, False)))
-
-
 ALONE = "records the kernel's events alone"
 REFUSED = {
     "a program": (("--pid", "1", "true"), "it takes no program, as true"),
@@ -264,71 +102,214 @@ REFUSED = {
 }
 
 
-def refused(folder):
-    """What doesn't go together has the status 2 and one line, and nothing is written."""
-    for name, (words, why) in REFUSED.items():
-        done = run(RECORD / "pim-record", "-o", f"{folder}/none", *words)
-        got = (done.returncode, done.stdout, done.stderr.count("\n"), why in done.stderr)
-        left = list(pathlib.Path(folder).glob("none*"))
-        check(f"--pid with {name}", difference((*got, left), (2, "", 1, True, [])) and f"{got} {done.stderr!r}")
-
-
 def files_of(folder):
     return {path.name: path.read_text() for path in pathlib.Path(folder).glob("none*")}
 
 
-def not_there(folder):
-    """A number of no process, of a thread, and of a process that has ended."""
-    gone = int(pathlib.Path("/proc/sys/kernel/pid_max").read_text()) + 1  # of no process, whatever is started
-    unseen = started("true")
-    until(lambda: stat_of(unseen.pid)[:1] == ["Z"])
-    program = started(PROGRAMS / "futexes", "attach", "/dev/null")
-    program.stdout.readline()
-    thread = max(threads_of(program.pid) - {program.pid})
-    numbers = {"a process that isn't there": (gone, f"there is no process {gone}; nothing was recorded"),
-               "a process that has ended": (unseen.pid, "it has ended; nothing was recorded"),
-               "a thread": (thread, "it is a thread, and not a process's number; nothing was recorded")}
-    older = {"none.1": "", "none.kernel": "pim-kernel 2\n"}
-    for file, text in older.items():
-        pathlib.Path(folder, file).write_text(text)
-    for name, (number, why) in numbers.items():
-        done = run(RECORD / "pim-record", "--pid", number, "-o", f"{folder}/none")
-        got = (done.returncode, done.stdout, done.stderr.count("\n"), why in done.stderr)
-        left = files_of(folder)
-        check(f"--pid of {name}", difference((*got, left), (2, "", 1, True, older)) and f"{got} {left} {done.stderr!r}")
-    for file in older:
-        pathlib.Path(folder, file).unlink()
-    # by the launcher, if it ends after pim-record has looked
-    variables = {**os.environ, "PIM_KERNEL": f"{folder}/none", "PIM_KERNEL_KB": "8192"}
-    done = run(RECORD / "out/pim-launch", "--pid", gone, "0", env=variables)
-    wanted = f"pim-record: process {gone}: {os.strerror(errno.ESRCH)}; nothing was recorded\n"
-    check("--pid of one that has just gone", difference((done.returncode, done.stderr), (2, wanted)))
-    program.kill()
+class Attached(Case):
+    def setUp(self):
+        self.tracefs = Tracefs()
+        self.addCleanup(self.tracefs.end)
+        if self.tracefs.missing:
+            self.skipTest(self.tracefs.missing)
+        self.addCleanup(self.end_recordings)
+
+    def end_recordings(self):
+        """Ends what the test left, which leaves no instance."""
+        end_started()
+        until(lambda: not self.tracefs.own())
+        self.assertEqual(self.tracefs.own(), [])
+
+    def test_a_program_with_threads(self):
+        """A program with threads, which waits and makes one more after the recording has begun, and goes on after it."""
+        words = pathlib.Path(self.folder, "words")
+        words.write_bytes(bytes(4))
+        program = started(PROGRAMS / "futexes", "attach", words)
+        self.equal("attached: the program is ready", (program.stdout.readline(),), ("ready\n",))
+        before = threads_of(program.pid)
+        status = proc_text(program.pid, "status")
+        recording = Attached(self.tracefs, self.folder, program.pid)
+        self.equal("attached: the recording has begun", (recording.has_begun, recording.instances and True), (True, True))
+        chosen = (self.tracefs.instances / recording.instances[0] / "set_event_pid").read_text().split()
+        self.equal("attached: its threads are chosen", (set(map(int, chosen)), len(before)), (before, 3))
+        traced = [line for line in proc_text(program.pid, "status").splitlines() if line.startswith("TracerPid")]
+        self.equal("attached: the program isn't traced", (traced, "TracerPid:\t0" in status), (["TracerPid:\t0"], True))
+        program.stdin.write("go\n")
+        program.stdin.flush()
+        said = [program.stdout.readline() for _ in range(4)]
+        outside = wake_outside(words, program.pid)
+        said += [program.stdout.readline() for _ in range(2)]
+        self.equal("attached: the program did all", (said[3], outside, said[5]), ("outside\n", True, "done\n"))
+        recording.child.send_signal(signal.SIGINT)
+        self.check("attached: SIGINT ends the recording, not the program",
+                   difference((*recording.end(), program.poll(), self.tracefs.own()), (0, "", None, [])))
+        self.waits_attached(recording, program, said)
+        program.stdin.write("go\n")
+        program.stdin.flush()
+        self.equal("attached: the program ends as it would", (ended(program), program.stderr.read()), (0, ""))
+
+    def waits_attached(self, recording, program, said):
+        """The waits are those that the program knows of; of the one that had begun before nothing is said."""
+        early, new = map(int, re.fullmatch(r"early (\d+) new (\d+)\n", said[0]).groups())
+        wanted = said_waits([*said[1:3], said[4]], outside=os.getpid())
+        self.check("attached: the waits and the wakes are those of the program", differs(recording.path.read_bytes(), wanted))
+        text = recording.text()
+        self.equal("attached: the head has the process", (text.head.process, text.head.version), (program.pid, 2))
+        of_early = {event.what for event in text.events if event.task == early and event.what in ("wait", "return")}
+        woken = {event.what for event in text.events if event.what == "wake" and event.values == (early,)}
+        ran = any(event.what == "switch" and event.task == early for event in text.events)
+        self.equal("attached: a wait that had begun before", (of_early, woken, ran), (set(), set(), True))
+        ran = any(event.what == "switch" and event.task == new for event in text.events)
+        self.check("attached: a thread that was made later is recorded", None if ran else f"{new} isn't")
+        done = run(RECORD / "pim-log", "--check", recording.path)
+        self.equal("attached: pim-log --check", (done.returncode, done.stderr), (0, ""))
+
+    def test_the_recording_ends_with_the_program(self):
+        """The recording ends with the program, also while the program's threads are looked for."""
+        program = sleeper()
+        recording = Attached(self.tracefs, self.folder, program.pid)
+        program.kill()
+        program.wait()
+        self.equal("--pid of a program that ends", (*recording.end(), self.tracefs.own()), (0, "", []))
+        self.check("the file of a program that ends is whole", "; ".join(faults_of(recording.path.read_bytes())))
+
+    def test_signals_and_for_end_the_recording(self):
+        """--for ends it, no sooner; SIGTERM and SIGHUP do. The program goes on."""
+        program = sleeper()
+        for option, least in ((("--for", "300ms"), 300), (("--for=200000us",), 200), (("-f", "1s"), 1000)):
+            recording = Attached(self.tracefs, self.folder, program.pid, *option)
+            self.equal(f"--pid with {' '.join(option)}", (*recording.end(), self.tracefs.own()), (0, "", []))
+            text = recording.text()
+            took = (text.end[0] - text.head.began) / 1e6
+            self.check("it takes as long", None if least <= took else f"{took} ms")
+        for number in (signal.SIGTERM, signal.SIGHUP):
+            recording = Attached(self.tracefs, self.folder, program.pid, "--for", "2m")
+            recording.child.send_signal(number)
+            self.equal(f"{number.name} ends it", (*recording.end(), self.tracefs.own()), (0, "", []))
+            self.check("its file is whole", "; ".join(faults_of(recording.path.read_bytes())))
+        self.ignores(self.tracefs, self.folder, program)
+        self.equal("the program goes on", (program.poll(),), (None,))
+        program.kill()
+
+    def ignores(self, tracefs, folder, program):
+        """What nohup or the & of a script has ignored doesn't end it: SIGTERM does."""
+        def ignore():
+            for number in (signal.SIGHUP, signal.SIGINT):
+                signal.signal(number, signal.SIG_IGN)
+        recording = Attached(tracefs, folder, program.pid, "--for", "1s", preexec_fn=ignore)
+        for number in (signal.SIGHUP, signal.SIGINT):
+            recording.child.send_signal(number)
+        got = (*recording.end(), (recording.text().end[0] - recording.text().head.began) >= 10**9)
+        self.equal("signals that are ignored don't end it", got, (0, "", True))
+        recording = Attached(tracefs, folder, program.pid, "--for", "2m", preexec_fn=ignore)
+        recording.child.send_signal(signal.SIGTERM)
+        self.equal("SIGTERM ends it then", (*recording.end(), tracefs.own()), (0, "", []))
+
+    def test_SIGKILL_leaves_no_instance(self):
+        """SIGKILL leaves no instance, and the program goes on."""
+        program = sleeper()
+        recording = Attached(self.tracefs, self.folder, program.pid)
+        there = len(recording.instances)
+        recording.child.kill()
+        ended(recording.child)
+        gone = until(lambda: not self.tracefs.own())
+        self.equal("--pid that is killed leaves no instance", (there, gone, program.poll()), (1, True, None))
+        self.check("its file says that it isn't whole", None if faults_of(recording.path.read_bytes()) else "it doesn't")
+        again = Attached(self.tracefs, self.folder, program.pid, "--for", "1ms")
+        self.equal("what it left is replaced", (*again.end(), faults_of(again.path.read_bytes())), (0, "", []))
+        program.kill()
+
+    def test_threads_that_make_threads_are_all_chosen(self):
+        """Threads that make threads while the recording is attached are all chosen."""
+        program = started(PROGRAMS / "spawns")
+        program.stdout.readline()
+        recording = Attached(self.tracefs, self.folder, program.pid, "--buffer", "32768")
+        chosen = lambda: set(map(int, (self.tracefs.instances / recording.instances[0] / "set_event_pid").read_text().split()))
+        there = threads_of(program.pid)
+        left = there - chosen() & threads_of(program.pid)
+        # a thread that has just been made may be so for a moment
+        is_chosen = until(lambda: not left & threads_of(program.pid) - chosen())
+        self.check("the threads of a program that makes threads are chosen", None if is_chosen else f"not {left}")
+        program.kill()
+        program.wait()
+        self.equal("--pid of a program that makes threads", (*recording.end(), self.tracefs.own()), (0, "", []))
+
+    def test_names_of_the_files(self):
+        """NAME.kernel alone is written, by the default name, too; what was a recording is replaced, and nothing else."""
+        program = sleeper()
+        before = (pathlib.Path(self.folder, "run"), pathlib.Path(self.folder, "run.kernel"))
+        run(RECORD / "pim-record", "--kernel", "-o", before[0], "true")
+        there = [path.read_bytes() for path in before]
+        attached_again = RECORD / "pim-record", "-p", program.pid, "-f", "1ms", "-o", before[0]
+        done = run(*attached_again)
+        got = done.returncode, " is there: --pid writes no log" in done.stderr, [path.read_bytes() for path in before]
+        self.equal("--pid leaves a log of its name alone", got, (2, True, there))
+        before[0].unlink()
+        done = run(*attached_again)
+        now = before[1].read_bytes()
+        got = (done.returncode, done.stderr, before[0].exists(), now == there[1], faults_of(now))
+        self.equal("--pid replaces the kernel's events", got, (0, "", False, False, []))
+        empty = pathlib.Path(self.folder, "empty")
+        empty.mkdir()
+        done = run(RECORD / "pim-record", "--pid", program.pid, "--for", "1ms", cwd=empty)
+        name = f"sleep.{program.pid}.pimlog.kernel"
+        got = (done.returncode, f"pim-record: {name} is kept; " in done.stderr, [path.name for path in empty.iterdir()])
+        self.equal("the default name", got, (0, True, [name]))
+        before[1].write_text("a letter\n")
+        done = run(RECORD / "pim-record", "--pid", program.pid, "--for", "1ms", "-o", before[0])
+        got = (done.returncode, "isn't a recording; nothing was recorded" in done.stderr, before[1].read_text())
+        self.equal("another file is kept", got, (2, True, "a letter\n"))
+        program.kill()
 
 
-def pid(attempt, folder):
-    attempt(refused, folder)
-    attempt(not_there, folder)
-    end_started()
-    without_rights(folder)
-    tracefs = Tracefs()
-    try:
-        if tracefs.missing:
-            return skip("--pid", tracefs.missing)
-        parts = ((attached, tracefs, folder), (its_end, tracefs, folder), (times, tracefs, folder),
-                 (killed, tracefs, folder), (many_threads, tracefs, folder), (names, folder))
+class Refused(Case):
+    def tearDown(self):
+        end_started()
 
-        def attempt_alone(part, *arguments):
-            attempt(part, *arguments)
-            for path in pathlib.Path(folder).glob("run*"):
-                path.unlink()
-        play(attempt_alone, tracefs, parts)
-        return check("no instance of --pid is left", difference((tracefs.own(),), ([],)))
-    finally:
-        tracefs.end()
+    def test_another_user_has_no_rights(self):
+        """Another user has no rights: one line, and status 77."""
+        os.chmod(self.folder, 0o777)
+        user = lambda: os.setuid(65534)
+        if run(RECORD / "pim-record", "--help", preexec_fn=user).returncode:
+            return self.skip("--pid without the rights", "another user doesn't reach the recorder")
+        how = {"preexec_fn": user} if os.geteuid() == 0 else {}
+        done = run(RECORD / "pim-record", "--pid", os.getpid(), "-o", f"{self.folder}/none", **how)
+        said = (done.stderr.count("\n"), done.stderr.startswith("pim-record: --pid needs root"), "was recorded" in done.stderr)
+        got = (done.returncode, done.stdout, *said, os.path.exists(f"{self.folder}/none.kernel"))
+        self.equal("--pid without the rights", got, (77, "", 1, True, True, False))
 
+    def test_what_does_not_go_together_is_refused(self):
+        """What doesn't go together has the status 2 and one line, and nothing is written."""
+        for name, (words, why) in REFUSED.items():
+            done = run(RECORD / "pim-record", "-o", f"{self.folder}/none", *words)
+            got = (done.returncode, done.stdout, done.stderr.count("\n"), why in done.stderr)
+            left = list(pathlib.Path(self.folder).glob("none*"))
+            self.check(f"--pid with {name}", difference((*got, left), (2, "", 1, True, [])) and f"{got} {done.stderr!r}")
 
-if __name__ == "__main__":
-    with tempfile.TemporaryDirectory() as place:
-        pid(lambda part, *arguments: part(*arguments), place)
-    end()
+    def test_processes_that_are_not_there(self):
+        """A number of no process, of a thread, and of a process that has ended."""
+        gone = int(pathlib.Path("/proc/sys/kernel/pid_max").read_text()) + 1  # of no process, whatever is started
+        unseen = started("true")
+        until(lambda: stat_of(unseen.pid)[:1] == ["Z"])
+        program = started(PROGRAMS / "futexes", "attach", "/dev/null")
+        program.stdout.readline()
+        thread = max(threads_of(program.pid) - {program.pid})
+        numbers = {"a process that isn't there": (gone, f"there is no process {gone}; nothing was recorded"),
+                   "a process that has ended": (unseen.pid, "it has ended; nothing was recorded"),
+                   "a thread": (thread, "it is a thread, and not a process's number; nothing was recorded")}
+        older = {"none.1": "", "none.kernel": "pim-kernel 2\n"}
+        for file, text in older.items():
+            pathlib.Path(self.folder, file).write_text(text)
+        for name, (number, why) in numbers.items():
+            done = run(RECORD / "pim-record", "--pid", number, "-o", f"{self.folder}/none")
+            got = (done.returncode, done.stdout, done.stderr.count("\n"), why in done.stderr)
+            left = files_of(self.folder)
+            self.check(f"--pid of {name}", difference((*got, left), (2, "", 1, True, older)) and f"{got} {left} {done.stderr!r}")
+        for file in older:
+            pathlib.Path(self.folder, file).unlink()
+        # by the launcher, if it ends after pim-record has looked
+        variables = {**os.environ, "PIM_KERNEL": f"{self.folder}/none", "PIM_KERNEL_KB": "8192"}
+        done = run(RECORD / "out/pim-launch", "--pid", gone, "0", env=variables)
+        wanted = f"pim-record: process {gone}: {os.strerror(errno.ESRCH)}; nothing was recorded\n"
+        self.equal("--pid of one that has just gone", (done.returncode, done.stderr), (2, wanted))
+        program.kill()

@@ -1,22 +1,25 @@
-"""The part of tests/record about where in the code calls are made: the places in the records, and their lines.
+"""Where in the code calls are made: the places in the records, and their lines.
 
-`python3 -m tests.record.test_places` plays it alone, once the recorder is built. record/FORMAT.md and
-record/INSIDE.md say what is tested.
+record/FORMAT.md and record/INSIDE.md say what is tested.
 """
 import os
 import pathlib
 import re
 import shutil
 import sys
-import tempfile
+import unittest
 
-from tests.shared.checks import check, difference, end, skip
+from tests.cases import Case
+from tests.shared.checks import difference
 from tests.record.test_collector import RECORD, read, run
 from tests.record.test_last import does, snapshot, started
-from tests.record.logs import log_of, reader
+from tests.record.logs import broken, log_of, reader, setUpModule
 
 sys.path.insert(0, str(RECORD))
 import places_text
+
+HAS_LINES = unittest.skipUnless(any(map(shutil.which, places_text.SYMBOLIZERS)), "there is no addr2line")
+HAS_NM = unittest.skipUnless(shutil.which("addr2line") and shutil.which("nm"), "there is no addr2line or no nm")
 
 CALLS_OF_MUTEXES = range(reader.REQUEST, reader.WAIT)
 # A comment names a line. A thread waits for the mutex of another, and then at a condition variable.
@@ -312,7 +315,7 @@ def told(path, *sources, but=(reader.WAIT, reader.WAITED, reader.GIVE)):
     """
     names = {f"{file}:{number}": line.rpartition("// ")[2]
              for file, text in sources for number, line in enumerate(text.splitlines(), 1) if "// " in line}
-    log, texts, said = read(reader, path), texts_of(path), {}
+    log, texts, said = read(path), texts_of(path), {}
     for record in log.records:
         if record.event not in reader.WITH_PLACE or record.event in but:
             continue
@@ -338,79 +341,6 @@ def without_race(got):
     return {**got, 1: [words for words in got.get(1, ()) if not words.startswith("request")]}
 
 
-def lines(broken, folder):
-    """Each record of a call has its line."""
-    for level in ("-O0", "-O2"):
-        program = compiled(folder, "plan.c", PLAN, level)
-        done, path = recorded(folder, program)
-        fault = broken(read(reader, path)) or difference((done.returncode, done.stdout, done.stderr), (0, "", ""))
-        check(f"the places of two threads, {level}",
-              fault or same(without_race(told(path, ("plan.c", PLAN))), PLANNED))
-        program = compiled(folder, "calls.c", CALLS, level)
-        done, path = recorded(folder, program)
-        check(f"the places of each kind of call, {level}",
-              broken(read(reader, path)) or same(told(path, ("calls.c", CALLS)), CALLED, False))
-
-
-def inlined(broken, folder):
-    """The place of a std::mutex is in the function that locks it, not in a header of C++."""
-    program = compiled(folder, "fleet.cpp", FLEET, "-O2", compiler="g++")
-    if not program:
-        return skip("the places of a program in C++", "there is no g++")
-    _, path = recorded(folder, program)
-    got = told(path, ("fleet.cpp", FLEET))
-    check("the places of a program in C++", broken(read(reader, path)) or same(got, FLED, False))
-    function = got[1][0].partition(" ADD ")[2]
-    return check("the function of one", difference((function,), ("fleet::Map<int>::add",)))
-
-
-def guarded(broken, folder):
-    """The place of a call by the standard library of C++ is the program's line, at each level of optimization."""
-    for compiler, *options in (*BUILDS, LIBCXX):
-        name = " ".join((compiler, *options))
-        program = compiled(folder, "guards.cpp", GUARDS.read_text(), "-std=c++17", *options, compiler=compiler)
-        if not program:
-            skip(f"the places of locks by {name}", "it isn't there, or can't build")
-            continue
-        if (compiler, *options) == MISREAD and not shutil.which("eu-addr2line"):
-            skip(f"the places of locks by {name}", "there is no eu-addr2line")
-            continue
-        done, path = recorded(folder, program)
-        got = told(path, ("guards.cpp", GUARDS.read_text()), but=(reader.REQUEST, reader.WAIT, reader.WAITED))
-        got, wanted = of_main(got), GUARDED
-        if (compiler, *options) == LIBCXX:
-            alike = GUARDED[1].index("release GENERATED") + 1
-            its = [words for words in got[2] if "libc++" not in words]  # what begins the thread locks, too
-            got, wanted = {1: got[1][:alike], 2: its}, {**GUARDED, 1: GUARDED[1][:alike]}
-        check(f"the places of locks by {name}", broken(read(reader, path)) or
-              difference((done.returncode,), (0,)) or same(got, wanted, False))
-        check(f"the function of one by {name}", difference(got[1][:1], ["granted GUARD guarded"]))
-        joins = told(path, ("guards.cpp", GUARDS.read_text()), but=[*CALLS_OF_MUTEXES, reader.GIVE]).get(1, ())
-        is_named = all(words.split()[1] == "JOIN" for words in joins)  # there is none if the thread has ended
-        check(f"the place of a join by {name}", None if is_named else f"{joins}")
-
-
-def locking(folder):
-    """A function of the standard library locks for its caller if its class, or it, is one of some whole names."""
-    source, program = pathlib.Path(folder, "locking.c"), pathlib.Path(folder, "locking")
-    source.write_text(PRINT_LOCKING)
-    built = run("cc", "-I", RECORD / "library", source, RECORD / "library/symbols.c", "-o", program, "-ldl")
-    got = built.stderr.split() if built.returncode else run(program, *LOCKING, *OTHERS).stdout.split()
-    check("the functions of C++ that lock for their callers", difference(got, LOCKING))
-
-
-def in_predicates(broken, folder):
-    """A predicate that locks, in a wait of C++ whose frame it makes longer, has the place of the wait."""
-    program = compiled(folder, "predicates.cpp", PREDICATES, "-O0", compiler="g++")
-    if not program:
-        return skip("the places of locks in predicates", "there is no g++")
-    done, path = recorded(folder, program)
-    inner = ["granted ENTER", "granted WAIT", "release WAIT", "release LEAVE"] * (1024 // 16 * 2 + 1)
-    wanted = {1: ["granted BEGIN", "granted ARRIVE", "release ARRIVE", *inner, "release END"]}
-    return check("the places of locks in predicates", difference((done.returncode,), (0,)) or broken(read(reader, path)) or
-                 same(told(path, ("predicates.cpp", PREDICATES)), wanted, False))
-
-
 def of_main(got):
     """Returns what is told, but for what the first thread does before and after main."""
     lines = [words.split()[1] for words in got[1]]
@@ -419,104 +349,7 @@ def of_main(got):
     return {**got, 1: got[1][lines.index("GUARD"):len(lines) - lines[::-1].index("LEAVE_IT")]}
 
 
-def forked(broken, folder):
-    """Processes share the table; a library that is loaded later is told at the end."""
-    library = compiled(folder, "later.c", LATER, "-shared", "-fPIC")
-    program = compiled(folder, "forks.c", FORKS)
-    _, path = recorded(folder, program, library)
-    got = told(path, ("forks.c", FORKS), ("later.c", LATER))
-    check("the places of a forked process, and of a library",
-          broken(read(reader, path)) or same(got, FORKED, False))
-    log = read(reader, path)
-    places = {(r.chunk.thread, r.event): r.place for r in reversed(log.records) if r.event in reader.WITH_PLACE}
-    check("a number is of one place in all processes",
-          difference((places[1, reader.GRANTED],), (places[2, reader.GRANTED],)))
-
-
-def killed(folder):
-    """The places of a program that is killed are named, too, and pim-record ends as it ended."""
-    program = compiled(folder, "plan.c", PLAN)
-    done, path = recorded(folder, program, "abort")
-    check("a program that aborts", difference((done.returncode, done.stderr), (-6, "")) or
-          same(without_race(told(path, ("plan.c", PLAN))), PLANNED))
-
-
 # ---- the table
-
-def full(broken, folder):
-    """A table that is full: each place that has room is right, and the other records are counted."""
-    program = compiled(folder, "sites.c", MANY_SITES, "-O0")
-    _, path = recorded(folder, program)
-    log = read(reader, path)
-    calls = [record for record in log.records if record.event in reader.WITH_PLACE]
-    first, second = ([log.place_of(record) for record in half] for half in (calls[:SITES], calls[SITES:]))
-    there = [place for place in first if place]
-    check("a table that is full", broken(log) or difference(
-        (len(calls), log.head.unplaced, first == second), (2 * SITES, 2 * first.count(None), True)))
-    check("each place is another one, in the order of the code",
-          None if there == sorted(set(there)) and SLOTS // 2 < len(there) <= SLOTS else f"{len(there)} places")
-    shown = run(RECORD / "pim-log", path).stdout.splitlines()
-    lines_with = [line for line in shown if " at=0x" in line]
-    wanted = f"# the places are missing: {log.head.unplaced} records have none"
-    check("pim-log says how many records have no place",
-          difference((len(lines_with), shown[2]), (2 * len(there), wanted)))
-
-
-def probes(folder):
-    """A place is in one of 16 slots, of which the first follows the last of the table."""
-    source, program = pathlib.Path(folder, "probed.c"), pathlib.Path(folder, "probed")
-    source.write_text(PROBED)
-    parts = [RECORD / f"library/{name}.c" for name in ("places", "wrappers", "symbols")]
-    built = run("cc", "-I", RECORD / "library", source, *parts, "-o", program, "-ldl")
-    numbers = [8191, 8192, *range(1, PROBES - 1), 0, 0, 8191, 15, 2]
-    objects = ["1fff000000005000"] * 3
-    wanted = [*map(str, numbers), *objects, "2"]
-    got = built.stderr.split() if built.returncode else run(program).stdout.split()
-    check("the slots of a place", difference(got, wanted))
-
-
-def latest(broken, folder):
-    """With --last a snapshot, and the log, have the places of all calls; with --contended those of the owner's lock."""
-    running = started(folder)
-    does(running, "quiet main busy main busy " + "busy " * 20)
-    taken = snapshot(running, 1)
-    does(running, "quiet short")
-    running.end()
-    logs = [read(reader, path) for path in (taken, running.path)]
-    for name, log in zip(("a snapshot", "the latest records"), logs):
-        calls = [record for record in log.records if record.event in reader.WITH_PLACE]
-        missing = [record.number for record in calls if not log.place_of(record)]
-        check(f"the places of {name}", broken(log) or difference(
-            (len(missing), log.head.unplaced, log.head.dropped > 0), (0, 0, True)))
-    early, late = logs
-    check("a place stays in its slot",
-          difference([place for place in early.places if place], [b for a, b in zip(early.places, late.places) if a]))
-    named = [sorted(texts_of(path)) for path in (taken, running.path)]
-    check("the places of a snapshot and of the log are named",
-          difference(named, [[n for n, place in enumerate(log.places, 1) if place] for log in logs]))
-    program = compiled(folder, "plan.c", PLAN)
-    _, path = recorded(folder, program, options=["--last", "1M", "--contended"])
-    got = told(path, ("plan.c", PLAN))
-    got[1] = got[1][:2]  # whether the planner waits for the second lock is a race
-    check("the places of what was waited for", same(got, {1: PLANNED[1][:2], 2: PLANNED[2]}))
-
-
-def facts(_, folder):
-    """pim-facts has the place of each call: its line and function, or the file and the offset where there is no such
-    text."""
-    program = compiled(folder, "plan.c", PLAN)
-    _, path = recorded(folder, program)
-    number = {line.rpartition("// ")[2]: at for at, line in enumerate(PLAN.splitlines(), 1)}
-    places = {f"plan.c:{number[words.split()[1]]}({words.split()[2]})" for words in (*PLANNED[1], *PLANNED[2])}
-    got = places_of_facts(path)
-    ends = {line.partition(" at=")[2].partition(" ")[2] for line in run(RECORD / "pim-log", path).stdout.splitlines()}
-    wanted = {"", *(text for _, text in texts_of(path).values())}
-    check("the lines of a listing", difference([ends], [wanted]))
-    check("the lines of facts", difference([set(got)], [places]))
-    pathlib.Path(f"{path}.places").unlink()
-    offsets = places_of_facts(path)
-    found = [place for place in offsets if re.fullmatch(r"plan\+0x[0-9a-f]+", place)]
-    check("the offsets of facts", difference((len(found), len(set(found))), (len(got), len(places))))
 
 
 def places_of_facts(path):
@@ -528,28 +361,6 @@ def places_of_facts(path):
 # ---- logs by hand
 
 GRANTED = (1, 21, 0x2_0000_0000_5000, 9, 4, 0)
-
-
-def by_hand(_):
-    """What pim-log says of places, in both versions."""
-    begun = (1, 1, 0x77, 0, 0, 0)
-    rows = [begun, GRANTED, (1, 25, 0x1_0000_0000_6000, 0, 0, 0), (1, 23, 0x5000, 0, 4, 4),
-            (1, 17, 0x3_0000_0000_5000, 0, 0, 0)]
-    log = reader.Log(log_of(rows, places=[0x401136, 0x401200]))
-    got = [(record.object, record.place, log.place_of(record)) for record in log.records[1:]]
-    wanted = [(0x5000, 2, 0x401200), (0x6000, 1, 0x401136), (0x5000, None, None), (0x3_0000_0000_5000, None, None)]
-    check("the objects and places of a log by hand", difference(got, wanted))
-    line = reader.line_of(log.records[1], 1000, log.place_of(log.records[1]))
-    check("a line with a place", difference((line,), (
-        "2 0.000000020 t1 granted mutex=0x5000 protocol=none type=normal call=lock took=9 at=0x401200",)))
-    record = reader.Log(log_of([begun, GRANTED])).records[1]
-    check("an object of version 1", difference((record.object, record.place), (GRANTED[2], None)))
-    line = reader.line_of(log.records[1], 1000, log.place_of(log.records[1]), b"plan.c:88 (plan)")
-    check("a line with the text of its place", None if line.endswith(" at=0x401200 plan.c:88 (plan)") else line)
-    for place, number in ((0, 2), (8193, 8193)):
-        rows = [begun, (1, 21, number << 48 | 0x5000, 9, 4, 0)]
-        faults = reader.Checker(reader.Log(log_of(rows, places=[0x401136, place]))).run()
-        check(f"a number without a place: {number}", difference(faults, [f"record 2: there is no place {number}"]))
 
 
 TEXTS = {
@@ -568,14 +379,6 @@ SHORT = {"main": "main", "plan(int)": "plan", "void Map::add<int>(int) const": "
          "Map::operator bool() const": "Map::operator bool", "x" * 81: "x" * 77 + "..."}
 
 
-def words(_):
-    """The text of a place, by what addr2line prints, and the name of a function."""
-    for wanted, frames in TEXTS.items():
-        check(f"the text {wanted}", difference((places_text.text_of(frames),), (wanted,)))
-    for name, wanted in SHORT.items():
-        check(f"the function {name[:60]}", difference((places_text.short(name),), (wanted,)))
-
-
 # ---- the file
 
 def path_without(folder, *left_out):
@@ -589,123 +392,293 @@ def path_without(folder, *left_out):
     return {**os.environ, "PATH": str(own)}
 
 
-def symbolizers(folder):
-    """Each program that names addresses says the same. Without one there is no file, and no word."""
-    program, wanted = compiled(folder, "plan.c", PLAN), None
-    for name in places_text.SYMBOLIZERS:
-        if not shutil.which(name):
-            skip(f"places by {name}", "it isn't installed")
-            continue
-        own = pathlib.Path(folder, f"with-{name}")
-        own.mkdir()
-        environment = path_without(own, *(set(places_text.SYMBOLIZERS) - {name}))
-        _, path = recorded(own, program, env=environment)
-        check(f"places by {name}", same(without_race(told(path, ("plan.c", PLAN))), PLANNED))
-    environment = path_without(folder, *places_text.SYMBOLIZERS)
-    done, path = recorded(folder, program, env=environment)
-    check("a recording without addr2line",
-          difference((done.returncode, done.stderr, texts_of(path)), (0, "", {})))
-    done = run(RECORD / "pim-log", "--places", path, env=environment)
-    wanted = f"pim-log: there is neither {' nor '.join(places_text.SYMBOLIZERS)}\n"
-    check("pim-log --places without it", difference((done.returncode, done.stderr), (2, wanted)))
+class Places(Case):
+    @HAS_LINES
+    def test_each_call_has_its_line(self):
+        """Each record of a call has its line."""
+        for level in ("-O0", "-O2"):
+            program = compiled(self.folder, "plan.c", PLAN, level)
+            done, path = recorded(self.folder, program)
+            fault = broken(read(path)) or difference((done.returncode, done.stdout, done.stderr), (0, "", ""))
+            self.check(f"the places of two threads, {level}",
+                       fault or same(without_race(told(path, ("plan.c", PLAN))), PLANNED))
+            program = compiled(self.folder, "calls.c", CALLS, level)
+            done, path = recorded(self.folder, program)
+            self.check(f"the places of each kind of call, {level}",
+                       broken(read(path)) or same(told(path, ("calls.c", CALLS)), CALLED, False))
 
+    @HAS_LINES
+    def test_the_place_of_a_std_mutex(self):
+        """The place of a std::mutex is in the function that locks it, not in a header of C++."""
+        program = compiled(self.folder, "fleet.cpp", FLEET, "-O2", compiler="g++")
+        if not program:
+            return self.skip("the places of a program in C++", "there is no g++")
+        _, path = recorded(self.folder, program)
+        got = told(path, ("fleet.cpp", FLEET))
+        self.check("the places of a program in C++", broken(read(path)) or same(got, FLED, False))
+        function = got[1][0].partition(" ADD ")[2]
+        self.equal("the function of one", (function,), ("fleet::Map<int>::add",))
 
-def named(broken, folder):
-    """The mutexes of static variables have their names, and the calls that initialise mutexes their lines."""
-    for options in ((), ("-no-pie",), ("-s", "-rdynamic")):
-        program = compiled(folder, "names.c", NAMED, *options)
-        done, path = recorded(folder, program)
-        own, pooled, exported, local = (int(word, 16) for word in done.stdout.split())
-        wanted = {exported: "exported"}
-        if "-s" not in options:
-            wanted |= {own: "own", pooled: "pool+0x28"}
-        lines_of = [text for address, text in names_of(path) if address not in (own, pooled, exported)]
-        got = {address: text for address, text in names_of(path) if address in (own, pooled, exported, local)}
-        initialised = [] if "-s" in options else ["names.c:10 (main)"]
-        check(f"the names of static mutexes, {' '.join(options) or 'plain'}", broken(read(reader, path)) or
-              difference((got, lines_of), (wanted, initialised)))
-        check("the addresses ascend", difference(names_of(path), sorted(names_of(path))))
+    @HAS_LINES
+    def test_calls_by_the_standard_library(self):
+        """The place of a call by the standard library of C++ is the program's line, at each level of optimization."""
+        for compiler, *options in (*BUILDS, LIBCXX):
+            name = " ".join((compiler, *options))
+            program = compiled(self.folder, "guards.cpp", GUARDS.read_text(), "-std=c++17", *options, compiler=compiler)
+            if not program:
+                self.skip(f"the places of locks by {name}", "it isn't there, or can't build")
+                continue
+            if (compiler, *options) == MISREAD and not shutil.which("eu-addr2line"):
+                self.skip(f"the places of locks by {name}", "there is no eu-addr2line")
+                continue
+            done, path = recorded(self.folder, program)
+            got = told(path, ("guards.cpp", GUARDS.read_text()), but=(reader.REQUEST, reader.WAIT, reader.WAITED))
+            got, wanted = of_main(got), GUARDED
+            if (compiler, *options) == LIBCXX:
+                alike = GUARDED[1].index("release GENERATED") + 1
+                its = [words for words in got[2] if "libc++" not in words]  # what begins the thread locks, too
+                got, wanted = {1: got[1][:alike], 2: its}, {**GUARDED, 1: GUARDED[1][:alike]}
+            self.check(f"the places of locks by {name}", broken(read(path)) or
+                       difference((done.returncode,), (0,)) or same(got, wanted, False))
+            self.check(f"the function of one by {name}", difference(got[1][:1], ["granted GUARD guarded"]))
+            joins = told(path, ("guards.cpp", GUARDS.read_text()), but=[*CALLS_OF_MUTEXES, reader.GIVE]).get(1, ())
+            is_named = all(words.split()[1] == "JOIN" for words in joins)  # there is none if the thread has ended
+            self.check(f"the place of a join by {name}", None if is_named else f"{joins}")
 
+    def test_functions_that_lock_for_their_caller(self):
+        """A function of the standard library locks for its caller if its class, or it, is one of some whole names."""
+        source, program = pathlib.Path(self.folder, "locking.c"), pathlib.Path(self.folder, "locking")
+        source.write_text(PRINT_LOCKING)
+        built = run("cc", "-I", RECORD / "library", source, RECORD / "library/symbols.c", "-o", program, "-ldl")
+        got = built.stderr.split() if built.returncode else run(program, *LOCKING, *OTHERS).stdout.split()
+        self.equal("the functions of C++ that lock for their callers", got, LOCKING)
 
-def asked(folder):
-    """A file is asked for its variables if a mutex may be one of them, and no other file is."""
-    bin_folder, nm = pathlib.Path(folder, "bin"), shutil.which("nm")
-    bin_folder.mkdir()
-    (bin_folder / "nm").write_text(f'#!/bin/sh\nfor it; do :; done\necho "$it" >> {folder}/asked\nexec {nm} "$@"\n')
-    (bin_folder / "nm").chmod(0o755)
-    environment = {**os.environ, "PATH": f"{bin_folder}:{os.environ['PATH']}"}
-    programs = RECORD / "out/programs"
-    for program, wanted in ((programs / "pair", []), (programs / "turns", [f"{programs}/turns"])):
-        pathlib.Path(folder, "asked").write_text("")
-        recorded(folder, program, "9", env=environment)
-        got = sorted(set(pathlib.Path(folder, "asked").read_text().split()))
-        check(f"whom nm is asked about, of {program.name}", difference(got, wanted))
-    odd = pathlib.Path(folder, "odd")
-    for text in (b"", b"\x7fELF\x02\x01" + bytes(20), b"#!/bin/sh\n" + bytes(100)):
-        odd.write_bytes(text)
-        check(f"a file of {len(text)} bytes may have variables",
-              difference((places_text.has_variables_at(odd, [8]),), (True,)))
+    @HAS_LINES
+    def test_a_predicate_that_locks(self):
+        """A predicate that locks, in a wait of C++ whose frame it makes longer, has the place of the wait."""
+        program = compiled(self.folder, "predicates.cpp", PREDICATES, "-O0", compiler="g++")
+        if not program:
+            return self.skip("the places of locks in predicates", "there is no g++")
+        done, path = recorded(self.folder, program)
+        inner = ["granted ENTER", "granted WAIT", "release WAIT", "release LEAVE"] * (1024 // 16 * 2 + 1)
+        wanted = {1: ["granted BEGIN", "granted ARRIVE", "release ARRIVE", *inner, "release END"]}
+        self.check("the places of locks in predicates", difference((done.returncode,), (0,)) or broken(read(path)) or
+                          same(told(path, ("predicates.cpp", PREDICATES)), wanted, False))
 
+    @HAS_LINES
+    def test_processes_share_the_table(self):
+        """Processes share the table; a library that is loaded later is told at the end."""
+        library = compiled(self.folder, "later.c", LATER, "-shared", "-fPIC")
+        program = compiled(self.folder, "forks.c", FORKS)
+        _, path = recorded(self.folder, program, library)
+        got = told(path, ("forks.c", FORKS), ("later.c", LATER))
+        self.check("the places of a forked process, and of a library",
+                   broken(read(path)) or same(got, FORKED, False))
+        log = read(path)
+        places = {(r.chunk.thread, r.event): r.place for r in reversed(log.records) if r.event in reader.WITH_PLACE}
+        self.check("a number is of one place in all processes",
+                   difference((places[1, reader.GRANTED],), (places[2, reader.GRANTED],)))
 
-def stripped(folder):
-    """A place without a line is a file and an offset, of the last byte of the call."""
-    program = compiled(folder, "plan.c", PLAN)
-    run("strip", program)
-    _, path = recorded(folder, program)
-    log = read(reader, path)
-    begin, = [r.object for r in log.records if r.event == reader.MODULE and r.text.endswith(b"/plan")]
-    wanted = {n: (place, f"plan+{place - 1 - begin:#x}") for n, place in enumerate(log.places, 1) if place}
-    check("the places of a program without debug information", difference([texts_of(path)], [wanted]))
+    @HAS_LINES
+    def test_the_places_of_a_program_that_is_killed(self):
+        """The places of a program that is killed are named, too, and pim-record ends as it ended."""
+        program = compiled(self.folder, "plan.c", PLAN)
+        done, path = recorded(self.folder, program, "abort")
+        self.check("a program that aborts", difference((done.returncode, done.stderr), (-6, "")) or
+                   same(without_race(told(path, ("plan.c", PLAN))), PLANNED))
 
+    def test_a_table_that_is_full(self):
+        """A table that is full: each place that has room is right, and the other records are counted."""
+        program = compiled(self.folder, "sites.c", MANY_SITES, "-O0")
+        _, path = recorded(self.folder, program)
+        log = read(path)
+        calls = [record for record in log.records if record.event in reader.WITH_PLACE]
+        first, second = ([log.place_of(record) for record in half] for half in (calls[:SITES], calls[SITES:]))
+        there = [place for place in first if place]
+        self.check("a table that is full", broken(log) or difference(
+            (len(calls), log.head.unplaced, first == second), (2 * SITES, 2 * first.count(None), True)))
+        self.check("each place is another one, in the order of the code",
+                   None if there == sorted(set(there)) and SLOTS // 2 < len(there) <= SLOTS else f"{len(there)} places")
+        shown = run(RECORD / "pim-log", path).stdout.splitlines()
+        lines_with = [line for line in shown if " at=0x" in line]
+        wanted = f"# the places are missing: {log.head.unplaced} records have none"
+        self.check("pim-log says how many records have no place",
+                   difference((len(lines_with), shown[2]), (2 * len(there), wanted)))
 
-def files(folder):
-    """A file of places is replaced with its log, and no other file is."""
-    program, places = compiled(folder, "plan.c", PLAN), pathlib.Path(folder, "run.places")
-    _, path = recorded(folder, "sh", "-c", f"{program}; {program}")
-    its = sorted(re.sub(r"\d+", "PID", it.name) for it in pathlib.Path(folder).glob("run*"))
-    check("each program has its places", difference(its, ["run", *["run.PID"] * 2, *["run.PID.places"] * 2]))
-    recorded(folder, program)
-    had = places.exists(), [*pathlib.Path(folder).glob("run.[0-9]*")]
-    recorded(folder, "true")
-    check("those of an earlier recording are removed", difference((*had, places.exists()), (True, [], False)))
-    places.write_text("a letter\n")
-    done, _ = recorded(folder, program)
-    check("a file of that name that has no places is kept",
-          difference((done.returncode, done.stderr, places.read_text()), (0, "", "a letter\n")))
-    done = run(RECORD / "pim-log", "--places", path)
-    said = f"pim-log: {places} is there, and has no places\n"
-    check("pim-log --places says so", difference((done.returncode, done.stderr), (2, said)))
-    places.unlink()
-    data = path.read_bytes()
-    path.write_bytes(data[:100_000])
-    done = run(RECORD / "pim-log", "--places", path, f"{folder}/nothing")
-    check("a log that is cut has those of its modules that are there",
-          difference((done.returncode, "Traceback" in done.stderr), (0, False)))
+    def test_a_place_is_in_one_of_16_slots(self):
+        """A place is in one of 16 slots, of which the first follows the last of the table."""
+        source, program = pathlib.Path(self.folder, "probed.c"), pathlib.Path(self.folder, "probed")
+        source.write_text(PROBED)
+        parts = [RECORD / f"library/{name}.c" for name in ("places", "wrappers", "symbols")]
+        built = run("cc", "-I", RECORD / "library", source, *parts, "-o", program, "-ldl")
+        numbers = [8191, 8192, *range(1, PROBES - 1), 0, 0, 8191, 15, 2]
+        objects = ["1fff000000005000"] * 3
+        wanted = [*map(str, numbers), *objects, "2"]
+        got = built.stderr.split() if built.returncode else run(program).stdout.split()
+        self.equal("the slots of a place", got, wanted)
 
+    @HAS_LINES
+    def test_last_and_contended_have_all_places(self):
+        """With --last a snapshot, and the log, have the places of all calls; with --contended those of the owner's lock."""
+        running = started(self.folder)
+        does(running, "quiet main busy main busy " + "busy " * 20)
+        taken = snapshot(running, 1)
+        does(running, "quiet short")
+        running.end()
+        logs = [read(path) for path in (taken, running.path)]
+        for name, log in zip(("a snapshot", "the latest records"), logs):
+            calls = [record for record in log.records if record.event in reader.WITH_PLACE]
+            missing = [record.number for record in calls if not log.place_of(record)]
+            self.check(f"the places of {name}", broken(log) or difference(
+                (len(missing), log.head.unplaced, log.head.dropped > 0), (0, 0, True)))
+        early, late = logs
+        self.check("a place stays in its slot",
+                   difference([place for place in early.places if place], [b for a, b in zip(early.places, late.places) if a]))
+        named = [sorted(texts_of(path)) for path in (taken, running.path)]
+        self.check("the places of a snapshot and of the log are named",
+                   difference(named, [[n for n, place in enumerate(log.places, 1) if place] for log in logs]))
+        program = compiled(self.folder, "plan.c", PLAN)
+        _, path = recorded(self.folder, program, options=["--last", "1M", "--contended"])
+        got = told(path, ("plan.c", PLAN))
+        got[1] = got[1][:2]  # whether the planner waits for the second lock is a race
+        self.check("the places of what was waited for", same(got, {1: PLANNED[1][:2], 2: PLANNED[2]}))
 
-def places(attempt, broken, folder):
-    """Each part in a folder of its own."""
-    of_logs = (lines, inlined, guarded, in_predicates, forked, full, latest, facts, named)
-    if not any(map(shutil.which, places_text.SYMBOLIZERS)):
-        skip("the lines of places", "there is no addr2line")
-        of_logs = (full,)
-    others = (probes, locking, by_hand, words)
-    if len(of_logs) > 1:
-        others = (*others, killed, symbolizers, stripped, files)
-    if len(of_logs) > 1 and shutil.which("nm"):
-        others = (*others, asked)
-    for part in (*of_logs, *others):
-        own = pathlib.Path(folder, part.__name__)
-        own.mkdir()
-        attempt(part, *((broken,) if part in of_logs else ()), str(own))
+    @HAS_LINES
+    def test_pim_facts_has_the_place_of_each_call(self):
+        """pim-facts has the place of each call: its line and function, or the file and the offset where there is no such
+        text."""
+        program = compiled(self.folder, "plan.c", PLAN)
+        _, path = recorded(self.folder, program)
+        number = {line.rpartition("// ")[2]: at for at, line in enumerate(PLAN.splitlines(), 1)}
+        places = {f"plan.c:{number[words.split()[1]]}({words.split()[2]})" for words in (*PLANNED[1], *PLANNED[2])}
+        got = places_of_facts(path)
+        ends = {line.partition(" at=")[2].partition(" ")[2] for line in run(RECORD / "pim-log", path).stdout.splitlines()}
+        wanted = {"", *(text for _, text in texts_of(path).values())}
+        self.check("the lines of a listing", difference([ends], [wanted]))
+        self.check("the lines of facts", difference([set(got)], [places]))
+        pathlib.Path(f"{path}.places").unlink()
+        offsets = places_of_facts(path)
+        found = [place for place in offsets if re.fullmatch(r"plan\+0x[0-9a-f]+", place)]
+        self.equal("the offsets of facts", (len(found), len(set(found))), (len(got), len(places)))
 
+    def test_what_pim_log_says_of_places(self):
+        """What pim-log says of places, in both versions."""
+        begun = (1, 1, 0x77, 0, 0, 0)
+        rows = [begun, GRANTED, (1, 25, 0x1_0000_0000_6000, 0, 0, 0), (1, 23, 0x5000, 0, 4, 4),
+                (1, 17, 0x3_0000_0000_5000, 0, 0, 0)]
+        log = reader.Log(log_of(rows, places=[0x401136, 0x401200]))
+        got = [(record.object, record.place, log.place_of(record)) for record in log.records[1:]]
+        wanted = [(0x5000, 2, 0x401200), (0x6000, 1, 0x401136), (0x5000, None, None), (0x3_0000_0000_5000, None, None)]
+        self.equal("the objects and places of a log by hand", got, wanted)
+        line = reader.line_of(log.records[1], 1000, log.place_of(log.records[1]))
+        self.check("a line with a place", difference((line,), (
+            "2 0.000000020 t1 granted mutex=0x5000 protocol=none type=normal call=lock took=9 at=0x401200",)))
+        record = reader.Log(log_of([begun, GRANTED])).records[1]
+        self.equal("an object of version 1", (record.object, record.place), (GRANTED[2], None))
+        line = reader.line_of(log.records[1], 1000, log.place_of(log.records[1]), b"plan.c:88 (plan)")
+        self.check("a line with the text of its place", None if line.endswith(" at=0x401200 plan.c:88 (plan)") else line)
+        for place, number in ((0, 2), (8193, 8193)):
+            rows = [begun, (1, 21, number << 48 | 0x5000, 9, 4, 0)]
+            faults = reader.Checker(reader.Log(log_of(rows, places=[0x401136, place]))).run()
+            self.check(f"a number without a place: {number}", difference(faults, [f"record 2: there is no place {number}"]))
 
-def first_fault(log):
-    """Returns the first law that a log breaks, or None."""
-    return next(iter(reader.Checker(log).run()), None)
+    def test_the_text_of_a_place(self):
+        """The text of a place, by what addr2line prints, and the name of a function."""
+        for wanted, frames in TEXTS.items():
+            self.equal(f"the text {wanted}", (places_text.text_of(frames),), (wanted,))
+        for name, wanted in SHORT.items():
+            self.equal(f"the function {name[:60]}", (places_text.short(name),), (wanted,))
 
+    @HAS_LINES
+    def test_each_symbolizer_says_the_same(self):
+        """Each program that names addresses says the same. Without one there is no file, and no word."""
+        program, wanted = compiled(self.folder, "plan.c", PLAN), None
+        for name in places_text.SYMBOLIZERS:
+            if not shutil.which(name):
+                self.skip(f"places by {name}", "it isn't installed")
+                continue
+            own = pathlib.Path(self.folder, f"with-{name}")
+            own.mkdir()
+            environment = path_without(own, *(set(places_text.SYMBOLIZERS) - {name}))
+            _, path = recorded(own, program, env=environment)
+            self.check(f"places by {name}", same(without_race(told(path, ("plan.c", PLAN))), PLANNED))
+        environment = path_without(self.folder, *places_text.SYMBOLIZERS)
+        done, path = recorded(self.folder, program, env=environment)
+        self.check("a recording without addr2line",
+                   difference((done.returncode, done.stderr, texts_of(path)), (0, "", {})))
+        done = run(RECORD / "pim-log", "--places", path, env=environment)
+        wanted = f"pim-log: there is neither {' nor '.join(places_text.SYMBOLIZERS)}\n"
+        self.equal("pim-log --places without it", (done.returncode, done.stderr), (2, wanted))
 
-if __name__ == "__main__":
-    with tempfile.TemporaryDirectory() as whole:
-        places(lambda part, *arguments: part(*arguments), first_fault, whole)
-    end()
+    @HAS_LINES
+    def test_mutexes_of_static_variables_have_their_names(self):
+        """The mutexes of static variables have their names, and the calls that initialise mutexes their lines."""
+        for options in ((), ("-no-pie",), ("-s", "-rdynamic")):
+            program = compiled(self.folder, "names.c", NAMED, *options)
+            done, path = recorded(self.folder, program)
+            own, pooled, exported, local = (int(word, 16) for word in done.stdout.split())
+            wanted = {exported: "exported"}
+            if "-s" not in options:
+                wanted |= {own: "own", pooled: "pool+0x28"}
+            lines_of = [text for address, text in names_of(path) if address not in (own, pooled, exported)]
+            got = {address: text for address, text in names_of(path) if address in (own, pooled, exported, local)}
+            initialised = [] if "-s" in options else ["names.c:10 (main)"]
+            self.check(f"the names of static mutexes, {' '.join(options) or 'plain'}", broken(read(path)) or
+                       difference((got, lines_of), (wanted, initialised)))
+            self.check("the addresses ascend", difference(names_of(path), sorted(names_of(path))))
+
+    @HAS_NM
+    def test_a_file_is_asked_if_a_mutex_may_be_in_it(self):
+        """A file is asked for its variables if a mutex may be one of them, and no other file is."""
+        bin_folder, nm = pathlib.Path(self.folder, "bin"), shutil.which("nm")
+        bin_folder.mkdir()
+        (bin_folder / "nm").write_text(f'#!/bin/sh\nfor it; do :; done\necho "$it" >> {self.folder}/asked\nexec {nm} "$@"\n')
+        (bin_folder / "nm").chmod(0o755)
+        environment = {**os.environ, "PATH": f"{bin_folder}:{os.environ['PATH']}"}
+        programs = RECORD / "out/programs"
+        for program, wanted in ((programs / "pair", []), (programs / "turns", [f"{programs}/turns"])):
+            pathlib.Path(self.folder, "asked").write_text("")
+            recorded(self.folder, program, "9", env=environment)
+            got = sorted(set(pathlib.Path(self.folder, "asked").read_text().split()))
+            self.equal(f"whom nm is asked about, of {program.name}", got, wanted)
+        odd = pathlib.Path(self.folder, "odd")
+        for text in (b"", b"\x7fELF\x02\x01" + bytes(20), b"#!/bin/sh\n" + bytes(100)):
+            odd.write_bytes(text)
+            self.check(f"a file of {len(text)} bytes may have variables",
+                       difference((places_text.has_variables_at(odd, [8]),), (True,)))
+
+    @HAS_LINES
+    def test_a_place_without_a_line(self):
+        """A place without a line is a file and an offset, of the last byte of the call."""
+        program = compiled(self.folder, "plan.c", PLAN)
+        run("strip", program)
+        _, path = recorded(self.folder, program)
+        log = read(path)
+        begin, = [r.object for r in log.records if r.event == reader.MODULE and r.text.endswith(b"/plan")]
+        wanted = {n: (place, f"plan+{place - 1 - begin:#x}") for n, place in enumerate(log.places, 1) if place}
+        self.check("the places of a program without debug information", difference([texts_of(path)], [wanted]))
+
+    @HAS_LINES
+    def test_a_file_of_places_is_replaced_with_its_log(self):
+        """A file of places is replaced with its log, and no other file is."""
+        program, places = compiled(self.folder, "plan.c", PLAN), pathlib.Path(self.folder, "run.places")
+        _, path = recorded(self.folder, "sh", "-c", f"{program}; {program}")
+        its = sorted(re.sub(r"\d+", "PID", it.name) for it in pathlib.Path(self.folder).glob("run*"))
+        self.check("each program has its places", difference(its, ["run", *["run.PID"] * 2, *["run.PID.places"] * 2]))
+        recorded(self.folder, program)
+        had = places.exists(), [*pathlib.Path(self.folder).glob("run.[0-9]*")]
+        recorded(self.folder, "true")
+        self.equal("those of an earlier recording are removed", (*had, places.exists()), (True, [], False))
+        places.write_text("a letter\n")
+        done, _ = recorded(self.folder, program)
+        self.check("a file of that name that has no places is kept",
+                   difference((done.returncode, done.stderr, places.read_text()), (0, "", "a letter\n")))
+        done = run(RECORD / "pim-log", "--places", path)
+        said = f"pim-log: {places} is there, and has no places\n"
+        self.equal("pim-log --places says so", (done.returncode, done.stderr), (2, said))
+        places.unlink()
+        data = path.read_bytes()
+        path.write_bytes(data[:100_000])
+        done = run(RECORD / "pim-log", "--places", path, f"{self.folder}/nothing")
+        self.check("a log that is cut has those of its modules that are there",
+                   difference((done.returncode, "Traceback" in done.stderr), (0, False)))

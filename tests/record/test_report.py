@@ -1,8 +1,8 @@
-"""The part of tests/record about what a recorder's user is told: pim-record and pim-report of
-programs whose source says who held up whom, and of real ones.
+"""What a recorder's user is told: pim-record and pim-report of programs whose source says who held
+up whom, and of real ones.
 
-`python3 -m tests.record.test_report` plays it alone, once the recorder is built. The rows are made by
-tests/facts/plain/rows.py, and for a user by pim-findings: ./test facts compares both.
+The rows are made by tests/facts/plain/rows.py, and for a user by pim-findings: ./test facts
+compares both.
 """
 import json
 import os
@@ -11,9 +11,10 @@ import random
 import re
 import shutil
 import sys
-import tempfile
 
-from tests.shared.checks import ROOT, check, difference, end, skip
+from tests.cases import Case
+from tests.record.logs import setUpModule
+from tests.shared.checks import ROOT, difference
 from tests.record.test_collector import CHUNK_BYTES, number_in, run
 from tests.record.test_last import does, is_permitted, started
 from tests.record.test_places import PLAN, compiled, recorded
@@ -21,7 +22,7 @@ from tests.record.test_stacks import NEST
 
 PROGRAMS, SKIPPED = ROOT / "record/out/programs", 77
 SOURCES, REPORT = ROOT / "record/programs", ROOT / "report/pim-report"
-ROWS = f"{sys.executable} {ROOT}/tests/plain_facts/rows.py"
+ROWS = f"{sys.executable} {ROOT}/tests/facts/plain/rows.py"
 MOST_RECORDINGS = 40
 MILLISECOND = 1_000_000
 
@@ -137,40 +138,9 @@ def has_lines(log):
 
 # ---- programs of record/programs
 
-def programs(folder):
-    for command, (status, waits) in WAITS.items():
-        found, name = report_of(folder, command), f"the report of {command}"
-        if not found:
-            skip(name, "SCHED_FIFO isn't permitted")
-            continue
-        got = found.status, sorted(found.waits())
-        check(name, found.fault() or difference(got, (status, waits))
-              or found.lacks(LINES.get(command, ())))
-        if command == "inversion none 2000":
-            lasted = min(wait["inverted"] for wait in found.found["waits"])
-            check("high is held up while medium computes",
-                  None if lasted >= 2000 * MILLISECOND else f"{lasted}")
-    for command in RACING:
-        found = report_of(folder, command)
-        check(f"the facts of {command} are a text", found and found.fault())
-
 
 # How the program inversion may be started. The report is of all programs of a recording.
 WRAPPERS = "env A=1 {}", "timeout 60 {}", "nice -n 0 env A=1 {}", "sh -c '{}'", "sh -c 'true; {} && true'"
-
-
-def wrappers(folder):
-    """A wait of a program is in the report, whatever starts it. Its threads have their names and levels."""
-    program = f"{PROGRAMS / 'inversion'} none 20"
-    for wrapper in WRAPPERS:
-        done, log = recorded(folder, "sh", "-c", f"exec {wrapper.format(program)}")
-        name = f"the report of {wrapper.format('inversion')}"
-        if done.returncode == SKIPPED:
-            skip(name, "SCHED_FIFO isn't permitted")
-            continue
-        found = Report(log)
-        wanted = 1, ["high (30) for none mutex of low (10): inverted"]
-        check(name, found.fault() or difference((found.status, found.waits()), wanted))
 
 
 # A thread waits for a mutex until the program is killed, a tenth of a second later or more.
@@ -197,115 +167,11 @@ int main(int count, char **arguments) {
 """
 
 
-def hangs(folder):
-    """What holds as a program is killed or aborted lasts until then, though no record comes."""
-    program = compiled(folder, "hangs.c", HANGS, f"-I{SOURCES}")
-    for name, words, options in (("is killed", [], []), ("aborts", ["abort"], []),
-                                 ("is killed, with --last", [], ["--last", "1M"])):
-        _, log = recorded(folder, program, *words, options=options)
-        found = Report(log)
-        lasted = [wait["lasted"] // (100 * MILLISECOND) for wait in found.found.get("waits", ())]
-        check(f"a wait of a program that {name}",
-              found.fault() or (None if len(lasted) == 1 and lasted[0] >= 1 else f"{lasted}"))
-
-
-def missed(folder):
-    """Each wait of high in missed is for low, also one that began while the mutex was free: low
-    was quicker. There may be none where the two seldom run at one time: then there is another
-    recording."""
-    name = "each wait of high in missed is for low"
-    for _recording in range(MOST_RECORDINGS):
-        found = report_of(folder, "missed")
-        if not found:
-            return skip(name, "SCHED_FIFO isn't permitted, or there is one CPU")
-        waits = [wait for wait in found.waits() if wait.startswith("high")]
-        if waits:
-            break
-    # Low may wait for high, too, if it begins late.
-    # Waits at one lock are several findings if what is known of low's place differs.
-    got = found.status, {*found.findings("late")}, {wait.rpartition(" ")[2] for wait in waits}
-    wanted = 1, {("late", "mutex", "high (80)", "low (10)")}, {"inverted"}
-    return check(name, found.fault() or difference(got, wanted))
-
-
 OBJECTS = {"semaphore": "semaphore storage_free", "rwlock": "read-write lock storage_lock",
            "condition": "condition variable storage_changed"}
 
 
-def objects(folder):
-    """Inversions at what isn't a mutex: control waits for storage while camera computes."""
-    source = (SOURCES / "objects.c").read_text()
-    program = compiled(folder, "objects.c", source, f"-I{SOURCES}")
-    for how, what in OBJECTS.items():
-        done, log = recorded(folder, program, how)
-        name = f"an inversion at a {what.rpartition(' ')[0]}"
-        if done.returncode == SKIPPED:
-            skip(name, "SCHED_FIFO isn't permitted")
-            continue
-        found = Report(log)
-        # main waits, too, for what storage does first
-        looks = [one for one in found.findings("look") if one[2].startswith("control")]
-        long = [wait for wait in found.found.get("blocked", ())
-                if found.threads[wait["thread"]] == "control"
-                and wait["lasted"] >= 50 * MILLISECOND]
-        wanted = [("look", what, "control (80)", "storage (10)")]
-        check(name, found.fault() or difference((found.status, looks, len(long)), (0, wanted, 1)))
-        if has_lines(log):
-            line = f"objects.c:{line_with(source, f'control waits: {how}')}"
-            got = [wait["at"][0].partition("(")[0] for wait in long]
-            check(f"its line: {how}", difference(got, [line]))
-
-
-def kernel(folder):
-    """With the kernel's events the report says who ran in place of the owner, and for how long."""
-    done, log = recorded(folder, PROGRAMS / "inversion", "none", "300", options=["--kernel"])
-    if done.returncode == SKIPPED:
-        return skip("who ran meanwhile", "no rights, no tracefs or no SCHED_FIFO")
-    found = Report(log)
-    ran = [(found.threads[one["thread"]], one["level"]) for wait in found.found["waits"]
-           for one in wait["meanwhile"] if one["time"] >= 250 * MILLISECOND]
-    check("who ran meanwhile", found.fault() or difference((found.status, ran),
-                                                           (1, [("medium", 20)])))
-    pathlib.Path(log).unlink()
-    alone = Report(log)
-    return check("the kernel's events alone have a report", alone.fault()
-                 or difference((alone.waits(),), ([],)))
-
-
-def static(folder):
-    """A program without a log: by the kernel's events high waits for a futex while low computes."""
-    program, name = pathlib.Path(folder, "static"), "the report of a static program"
-    words = "cc", "-O2", "-pthread", "-static", SOURCES / "inversion.c", "-o", program
-    if run(*words).returncode:
-        return skip(name, "there is no static C library")
-    done, log = recorded(folder, program, "inherit", options=["--kernel"])
-    if done.returncode == SKIPPED:
-        return skip(name, "no rights, no tracefs or no SCHED_FIFO")
-    found = Report(log)
-    waits = [(found.threads[wait["thread"]], wait["lasted"] >= 30 * MILLISECOND)
-             for wait in found.found["blocked"] if wait["level"] == 30]
-    return check(name, found.fault() or difference((found.status, waits), (0, [("high", True)])))
-
-
 # ---- places
-
-def code_places(folder):
-    """A wait has the line of its call, and that at which the owner took the mutex; without the
-    file of lines the offsets."""
-    _, log = recorded(folder, compiled(folder, "plan.c", PLAN))
-    places = lambda: [(wait["at"][0], wait["taken_at"][0]) for wait in Report(log).found["waits"]
-                      if wait["taken_at"]]
-    name = "the lines of a wait and of its owner"
-    if has_lines(log):
-        wanted = (f"plan.c:{line_with(PLAN, '// PLAN')}(plan)",
-                  f"plan.c:{line_with(PLAN, '// TAKE')}(update_map)")
-        check(name, None if wanted in places() else f"{places()}")
-        pathlib.Path(f"{log}.places").unlink()
-    else:
-        skip(name, "there is no addr2line")
-    offset = r"plan\+0x[0-9a-f]+"
-    fits = any(re.fullmatch(offset, at) and re.fullmatch(offset, taken) for at, taken in places())
-    check("the offsets of a wait and of its owner", None if fits else f"{places()}")
 
 
 # A program, or a child that it forks, initialises a mutex in the line with the word INIT.
@@ -324,107 +190,216 @@ int main(int count, char **arguments) {
 """
 
 
-def places(folder):
-    """The place of a mutex is in the line of the call that initialised it, also in a process that
-    was forked."""
-    program = compiled(folder, "initialises.c", INITIALISES, "-O0")
-    line = f"initialises.c:{line_with(INITIALISES, 'INIT */')}(main)"
-    for name, words in {"a program": [], "a forked process": ["fork"]}.items():
-        _, log = recorded(folder, program, *words)
-        place = lambda: [mutex["place"] for mutex in Report(log).found["mutexes"]]
+class Reports(Case):
+    def test_programs(self):
+        for command, (status, waits) in WAITS.items():
+            found, name = report_of(self.folder, command), f"the report of {command}"
+            if not found:
+                self.skip(name, "SCHED_FIFO isn't permitted")
+                continue
+            got = found.status, sorted(found.waits())
+            self.check(name, found.fault() or difference(got, (status, waits))
+                       or found.lacks(LINES.get(command, ())))
+            if command == "inversion none 2000":
+                lasted = min(wait["inverted"] for wait in found.found["waits"])
+                self.check("high is held up while medium computes",
+                           None if lasted >= 2000 * MILLISECOND else f"{lasted}")
+        for command in RACING:
+            found = report_of(self.folder, command)
+            self.check(f"the facts of {command} are a text", found and found.fault())
+
+    def test_waits_of_what_a_wrapper_starts(self):
+        """A wait of a program is in the report, whatever starts it. Its threads have their names and levels."""
+        program = f"{PROGRAMS / 'inversion'} none 20"
+        for wrapper in WRAPPERS:
+            done, log = recorded(self.folder, "sh", "-c", f"exec {wrapper.format(program)}")
+            name = f"the report of {wrapper.format('inversion')}"
+            if done.returncode == SKIPPED:
+                self.skip(name, "SCHED_FIFO isn't permitted")
+                continue
+            found = Report(log)
+            wanted = 1, ["high (30) for none mutex of low (10): inverted"]
+            self.check(name, found.fault() or difference((found.status, found.waits()), wanted))
+
+    def test_what_holds_as_a_program_is_killed(self):
+        """What holds as a program is killed or aborted lasts until then, though no record comes."""
+        program = compiled(self.folder, "hangs.c", HANGS, f"-I{SOURCES}")
+        for name, words, options in (("is killed", [], []), ("aborts", ["abort"], []),
+                                     ("is killed, with --last", [], ["--last", "1M"])):
+            _, log = recorded(self.folder, program, *words, options=options)
+            found = Report(log)
+            lasted = [wait["lasted"] // (100 * MILLISECOND) for wait in found.found.get("waits", ())]
+            self.check(f"a wait of a program that {name}",
+                       found.fault() or (None if len(lasted) == 1 and lasted[0] >= 1 else f"{lasted}"))
+
+    def test_waits_that_begin_while_the_mutex_is_free(self):
+        """Each wait of high in missed is for low, also one that began while the mutex was free: low
+        was quicker. There may be none where the two seldom run at one time: then there is another
+        recording."""
+        name = "each wait of high in missed is for low"
+        for _recording in range(MOST_RECORDINGS):
+            found = report_of(self.folder, "missed")
+            if not found:
+                return self.skip(name, "SCHED_FIFO isn't permitted, or there is one CPU")
+            waits = [wait for wait in found.waits() if wait.startswith("high")]
+            if waits:
+                break
+        # Low may wait for high, too, if it begins late.
+        # Waits at one lock are several findings if what is known of low's place differs.
+        got = found.status, {*found.findings("late")}, {wait.rpartition(" ")[2] for wait in waits}
+        wanted = 1, {("late", "mutex", "high (80)", "low (10)")}, {"inverted"}
+        self.check(name, found.fault() or difference(got, wanted))
+
+    def test_inversions_at_other_objects(self):
+        """Inversions at what isn't a mutex: control waits for storage while camera computes."""
+        source = (SOURCES / "objects.c").read_text()
+        program = compiled(self.folder, "objects.c", source, f"-I{SOURCES}")
+        for how, what in OBJECTS.items():
+            done, log = recorded(self.folder, program, how)
+            name = f"an inversion at a {what.rpartition(' ')[0]}"
+            if done.returncode == SKIPPED:
+                self.skip(name, "SCHED_FIFO isn't permitted")
+                continue
+            found = Report(log)
+            # main waits, too, for what storage does first
+            looks = [one for one in found.findings("look") if one[2].startswith("control")]
+            long = [wait for wait in found.found.get("blocked", ())
+                    if found.threads[wait["thread"]] == "control"
+                    and wait["lasted"] >= 50 * MILLISECOND]
+            wanted = [("look", what, "control (80)", "storage (10)")]
+            self.check(name, found.fault() or difference((found.status, looks, len(long)), (0, wanted, 1)))
+            if has_lines(log):
+                line = f"objects.c:{line_with(source, f'control waits: {how}')}"
+                got = [wait["at"][0].partition("(")[0] for wait in long]
+                self.check(f"its line: {how}", difference(got, [line]))
+
+    def test_who_ran_in_place_of_the_owner(self):
+        """With the kernel's events the report says who ran in place of the owner, and for how long."""
+        done, log = recorded(self.folder, PROGRAMS / "inversion", "none", "300", options=["--kernel"])
+        if done.returncode == SKIPPED:
+            return self.skip("who ran meanwhile", "no rights, no tracefs or no SCHED_FIFO")
+        found = Report(log)
+        ran = [(found.threads[one["thread"]], one["level"]) for wait in found.found["waits"]
+               for one in wait["meanwhile"] if one["time"] >= 250 * MILLISECOND]
+        self.check("who ran meanwhile", found.fault() or difference((found.status, ran),
+                                                                    (1, [("medium", 20)])))
+        pathlib.Path(log).unlink()
+        alone = Report(log)
+        self.check("the kernel's events alone have a report", alone.fault()
+                          or difference((alone.waits(),), ([],)))
+
+    def test_a_program_without_a_log(self):
+        """A program without a log: by the kernel's events high waits for a futex while low computes."""
+        program, name = pathlib.Path(self.folder, "static"), "the report of a static program"
+        words = "cc", "-O2", "-pthread", "-static", SOURCES / "inversion.c", "-o", program
+        if run(*words).returncode:
+            return self.skip(name, "there is no static C library")
+        done, log = recorded(self.folder, program, "inherit", options=["--kernel"])
+        if done.returncode == SKIPPED:
+            return self.skip(name, "no rights, no tracefs or no SCHED_FIFO")
+        found = Report(log)
+        waits = [(found.threads[wait["thread"]], wait["lasted"] >= 30 * MILLISECOND)
+                 for wait in found.found["blocked"] if wait["level"] == 30]
+        self.check(name, found.fault() or difference((found.status, waits), (0, [("high", True)])))
+
+    def test_lines_of_waits_and_owners(self):
+        """A wait has the line of its call, and that at which the owner took the mutex; without the
+        file of lines the offsets."""
+        _, log = recorded(self.folder, compiled(self.folder, "plan.c", PLAN))
+        places = lambda: [(wait["at"][0], wait["taken_at"][0]) for wait in Report(log).found["waits"]
+                          if wait["taken_at"]]
+        name = "the lines of a wait and of its owner"
         if has_lines(log):
-            check(f"the line of a mutex of {name}", difference(place(), [line]))
+            wanted = (f"plan.c:{line_with(PLAN, '// PLAN')}(plan)",
+                      f"plan.c:{line_with(PLAN, '// TAKE')}(update_map)")
+            self.check(name, None if wanted in places() else f"{places()}")
             pathlib.Path(f"{log}.places").unlink()
-        fits = all(re.fullmatch(r"initialises\+0x[0-9a-f]+", it) for it in place())
-        check(f"the place of a mutex of {name}", None if fits else f"{place()}")
+        else:
+            self.skip(name, "there is no addr2line")
+        offset = r"plan\+0x[0-9a-f]+"
+        fits = any(re.fullmatch(offset, at) and re.fullmatch(offset, taken) for at, taken in places())
+        self.check("the offsets of a wait and of its owner", None if fits else f"{places()}")
 
+    def test_the_place_of_a_mutex(self):
+        """The place of a mutex is in the line of the call that initialised it, also in a process that
+        was forked."""
+        program = compiled(self.folder, "initialises.c", INITIALISES, "-O0")
+        line = f"initialises.c:{line_with(INITIALISES, 'INIT */')}(main)"
+        for name, words in {"a program": [], "a forked process": ["fork"]}.items():
+            _, log = recorded(self.folder, program, *words)
+            place = lambda: [mutex["place"] for mutex in Report(log).found["mutexes"]]
+            if has_lines(log):
+                self.check(f"the line of a mutex of {name}", difference(place(), [line]))
+                pathlib.Path(f"{log}.places").unlink()
+            fits = all(re.fullmatch(r"initialises\+0x[0-9a-f]+", it) for it in place())
+            self.check(f"the place of a mutex of {name}", None if fits else f"{place()}")
 
-def callers(folder):
-    """After the place of a wait are the functions that called; without --stacks there are none."""
-    program, stacks = compiled(folder, "nest.c", NEST), []
-    for options in (["--stacks"], []):
-        _, log = recorded(folder, program, options=options)
-        stacks += [wait["at"][1:] for wait in Report(log).found["waits"]
-                   if "(read_map)" in wait["at"][0]]
-    if not has_lines(log):
-        return skip("who called a lock that waits", "there is no addr2line")
-    wanted = [f"nest.c:{line_with(NEST, '// PLAN')}(plan)",
-              f"nest.c:{line_with(NEST, '// DRIVE')}(drive)"]
-    return check("who called a lock that waits",
-                 difference((stacks[0][:2], stacks[1]), (wanted, [])))
+    def test_callers_come_after_the_place(self):
+        """After the place of a wait are the functions that called; without --stacks there are none."""
+        program, stacks = compiled(self.folder, "nest.c", NEST), []
+        for options in (["--stacks"], []):
+            _, log = recorded(self.folder, program, options=options)
+            stacks += [wait["at"][1:] for wait in Report(log).found["waits"]
+                       if "(read_map)" in wait["at"][0]]
+        if not has_lines(log):
+            return self.skip("who called a lock that waits", "there is no addr2line")
+        wanted = [f"nest.c:{line_with(NEST, '// PLAN')}(plan)",
+                  f"nest.c:{line_with(NEST, '// DRIVE')}(drive)"]
+        self.check("who called a lock that waits",
+                          difference((stacks[0][:2], stacks[1]), (wanted, [])))
 
+    def test_facts_of_real_programs_are_texts(self):
+        """The facts of real programs are texts."""
+        data = pathlib.Path(self.folder, "data")
+        data.write_bytes(random.Random(1).randbytes(2_000_000))
+        commands = {"pigz": ["-p", "4", "-b", "128", "-c", data],
+                    "xz": ["--threads=4", "-0", "-c", data],
+                    "pbzip2": ["-p4", "-b1", "-c", data], "pi_stress": ["-D", "2", "-q"]}
+        for name, words in commands.items():
+            if not shutil.which(name):
+                self.skip(f"the facts of {name} are a text", "it isn't installed")
+                continue
+            options = ["--size", "1"] if name == "pi_stress" else []  # it locks as often as it can
+            _, log = recorded(self.folder, name, *words, options=options, text=False)
+            self.check(f"the facts of {name} are a text", Report(log).fault())
 
-# ---- others
+    def test_the_report_of_the_latest_records(self):
+        """The report of the latest records has a wait, and says how much wasn't seen."""
+        running = started(self.folder)
+        if is_permitted():
+            does(running, "busy " * 15 + "wait quiet")
+        running.end()
+        found, unseen = Report(running.path), number_in(running.path, 224)
+        if not is_permitted():
+            return self.skip("the report of the latest records", "SCHED_FIFO isn't permitted")
+        wait = "last (80) for none awaited of last (0): inverted"
+        said = f"  The recorder couldn't see: {unseen} calls that the recorder couldn't see whole."
+        self.check("the report of the latest records", found.fault() or found.lacks([said])
+                          or (None if wait in found.waits() else f"{found.waits()}"))
 
-def real(folder):
-    """The facts of real programs are texts."""
-    data = pathlib.Path(folder, "data")
-    data.write_bytes(random.Random(1).randbytes(2_000_000))
-    commands = {"pigz": ["-p", "4", "-b", "128", "-c", data],
-                "xz": ["--threads=4", "-0", "-c", data],
-                "pbzip2": ["-p4", "-b1", "-c", data], "pi_stress": ["-D", "2", "-q"]}
-    for name, words in commands.items():
-        if not shutil.which(name):
-            skip(f"the facts of {name} are a text", "it isn't installed")
-            continue
-        options = ["--size", "1"] if name == "pi_stress" else []  # it locks as often as it can
-        _, log = recorded(folder, name, *words, options=options, text=False)
-        check(f"the facts of {name} are a text", Report(log).fault())
+    def test_facts_of_a_few_chunks_are_a_text(self):
+        """What is left in a few chunks of threads that race has facts that are a text."""
+        launch = ROOT / "record/out/pim-launch", ROOT / "record/out/libpim_record.so"
+        for chunks in (2, 5, 20):
+            for command in ("random 1 300 ordinary", "robust", "forks", "condition", "many"):
+                name, *words = command.split()
+                log = pathlib.Path(self.folder, f"{name}-{chunks}")
+                size = {"PIM_RECORD": str(log), "PIM_RECORD_LAST": str(chunks * CHUNK_BYTES)}
+                done = run(*launch, PROGRAMS / name, *words, env={**os.environ, **size})
+                self.check(f"the facts of {command} in {chunks} chunks",
+                           Report(log).fault() or difference((done.returncode,), (0,)))
 
-
-def latest(folder):
-    """The report of the latest records has a wait, and says how much wasn't seen."""
-    running = started(folder)
-    if is_permitted():
-        does(running, "busy " * 15 + "wait quiet")
-    running.end()
-    found, unseen = Report(running.path), number_in(running.path, 224)
-    if not is_permitted():
-        return skip("the report of the latest records", "SCHED_FIFO isn't permitted")
-    wait = "last (80) for none awaited of last (0): inverted"
-    said = f"  The recorder couldn't see: {unseen} calls that the recorder couldn't see whole."
-    return check("the report of the latest records", found.fault() or found.lacks([said])
-                 or (None if wait in found.waits() else f"{found.waits()}"))
-
-
-def small_rings(folder):
-    """What is left in a few chunks of threads that race has facts that are a text."""
-    launch = ROOT / "record/out/pim-launch", ROOT / "record/out/libpim_record.so"
-    for chunks in (2, 5, 20):
-        for command in ("random 1 300 ordinary", "robust", "forks", "condition", "many"):
-            name, *words = command.split()
-            log = pathlib.Path(folder, f"{name}-{chunks}")
-            size = {"PIM_RECORD": str(log), "PIM_RECORD_LAST": str(chunks * CHUNK_BYTES)}
-            done = run(*launch, PROGRAMS / name, *words, env={**os.environ, **size})
-            check(f"the facts of {command} in {chunks} chunks",
-                  Report(log).fault() or difference((done.returncode,), (0,)))
-
-
-def hooks(folder):
-    """The hooks of a made-up RTOS print a text whose findings these are: log holds the map for 4
-    ms; plan waits for 3 of them, and spare for 1 until it gives up."""
-    program = pathlib.Path(folder, "hooks")
-    flags = "-std=c11", "-Wall", "-Wextra", "-Werror"
-    built = run("cc", *flags, "-o", program, ROOT / "examples/hooks.c")
-    check("examples/hooks.c is built without a warning", built.stderr or None)
-    text = run(program).stdout
-    done = run(REPORT, "--findings", ROWS, "--json", "--facts", "-", input=text)
-    found = json.loads(done.stdout)["findings"] if done.stdout else []
-    got = [(one["kind"], one["what"], one["who"][0]["level"], one["worst"]) for one in found]
-    wanted = [("bounded", "map_lock", 30, 3 * MILLISECOND),
-              ("bounded", "map_lock", 20, MILLISECOND)]
-    check("the report of the example", difference((done.returncode, got), (0, wanted)))
-
-
-def reports(attempt, folder):
-    """Each part, of which one that breaks off leaves the others as they are."""
-    for part in (programs, wrappers, hangs, missed, objects, kernel, static, code_places, places, callers, real,
-                 latest, small_rings, hooks):
-        with tempfile.TemporaryDirectory(dir=folder) as own:
-            attempt(part, own)
-
-
-if __name__ == "__main__":
-    with tempfile.TemporaryDirectory() as all_of_it:
-        reports(lambda part, own: part(own), all_of_it)
-    end()
+    def test_hooks_of_a_made_up_rtos(self):
+        """The hooks of a made-up RTOS print a text whose findings these are: log holds the map for 4
+        ms; plan waits for 3 of them, and spare for 1 until it gives up."""
+        program = pathlib.Path(self.folder, "hooks")
+        flags = "-std=c11", "-Wall", "-Wextra", "-Werror"
+        built = run("cc", *flags, "-o", program, ROOT / "examples/hooks.c")
+        self.check("examples/hooks.c is built without a warning", built.stderr or None)
+        text = run(program).stdout
+        done = run(REPORT, "--findings", ROWS, "--json", "--facts", "-", input=text)
+        found = json.loads(done.stdout)["findings"] if done.stdout else []
+        got = [(one["kind"], one["what"], one["who"][0]["level"], one["worst"]) for one in found]
+        wanted = [("bounded", "map_lock", 30, 3 * MILLISECOND),
+                  ("bounded", "map_lock", 20, MILLISECOND)]
+        self.equal("the report of the example", (done.returncode, got), (0, wanted))

@@ -1,22 +1,23 @@
-"""The part of tests/record about who called a lock that waits: pim-record --stacks.
+"""Who called a lock that waits: pim-record --stacks.
 
-`python3 -m tests.record.test_stacks` plays it alone, once the recorder is built. record/FORMAT.md and
-record/INSIDE.md say what is tested.
+record/FORMAT.md and record/INSIDE.md say what is tested.
 """
 import os
-import pathlib
 import shutil
 import sys
-import tempfile
+import unittest
 
-from tests.shared.checks import check, difference, end, skip
+from tests.cases import Case
+from tests.shared.checks import difference
 from tests.record.test_collector import RECORD, read
-from tests.record.logs import log_of, reader
-from tests.record.test_places import compiled, first_fault, recorded, same, texts_of
+from tests.record.logs import broken, log_of, reader, setUpModule
+from tests.record.test_places import compiled, recorded, same, texts_of
 from tests.record.test_places import told as places_told
 
 sys.path.insert(0, str(RECORD))
 import places_text
+
+HAS_LINES = unittest.skipUnless(any(map(shutil.which, places_text.SYMBOLIZERS)), "there is no addr2line")
 
 MOST_CALLERS = 15
 # Each of two threads waits for the other's mutex: one in three functions, the first one in main.
@@ -305,7 +306,7 @@ def told(path, source, text):
         line, _, function = texts.get(record.place, "nowhere").partition(" ")
         return f"{names.get(line, line)} {function[1:-1]}"
     return {thread: [[*map(words, stack)] for stack in stacks]
-            for thread, stacks in stacks_of(read(reader, path)).items()}
+            for thread, stacks in stacks_of(read(path)).items()}
 
 
 def sizes_of(log):
@@ -315,119 +316,6 @@ def sizes_of(log):
 
 def frames_in(log):
     return sum(record.event == reader.FRAME for record in log.records)
-
-
-def nested(broken, folder):
-    """Two threads that wait have their callers, up to main or to the start routine."""
-    for level in ("-O0", "-O2"):
-        program = compiled(folder, "nest.c", NEST, level)
-        for options in ((), ("--last", "1M"), ("--last", "1M", "--contended")):
-            done, path = recorded(folder, program, options=["--stacks", *options])
-            fault = broken(read(reader, path)) or difference((done.returncode, done.stdout, done.stderr), (0, "", ""))
-            got = told(path, "nest.c", NEST)
-            check(f"the callers of two threads, {' '.join((level, *options))}", fault or difference(
-                [got.get(thread, ())[-1:] for thread in NESTED], [*NESTED.values()]))
-        _, path = recorded(folder, program)
-        check(f"without --stacks there are none, {level}", difference((frames_in(read(reader, path)),), (0,)))
-
-
-def guarded(broken, folder):
-    """Where a std::lock_guard waits, the stack begins in the function that has it, also if nothing is inlined."""
-    for level in ("-O0", "-Og", "-O2"):
-        program = compiled(folder, "guarded.cpp", GUARDED, level, compiler="g++")
-        if not program:
-            return skip("the callers of a std::lock_guard", "there is no g++")
-        for options in (("--stacks",), ("--stacks", "--last", "1M", "--contended")):
-            _, path = recorded(folder, program, options=options)
-            got = places_told(path, ("guarded.cpp", GUARDED))
-            check(f"the callers of a std::lock_guard, {' '.join((level, *options))}",
-                  broken(read(reader, path)) or same(got, GUARDS))
-    return None
-
-
-def deep(broken, folder):
-    """A stack has 16 frames at most, with the call's own place, and the last ones aren't those of the C library."""
-    program = compiled(folder, "deep.c", DEEP)
-    for depth in (1, 13, 14, 15, 16, 17, 40):
-        _, path = recorded(folder, program, str(depth), options=["--stacks"])
-        log = read(reader, path)
-        check(f"the frames of {depth} functions",
-              broken(log) or difference(sizes_of(log), [min(depth, MOST_CALLERS)]))
-        frames, = stacks_of(log)[2]
-        indexes = [record.value for record in frames[1:]]
-        check("their indexes", difference(indexes, [*range(1, len(frames))]))
-
-
-def allocated(broken, folder):
-    """The unwinder doesn't allocate while the program runs, also where that would lock a mutex."""
-    program = compiled(folder, "allocator.c", ALLOCATOR, "-fno-builtin")
-    done, path = recorded(folder, program, options=["--stacks"])
-    log = read(reader, path)
-    check("a stack allocates nothing", broken(log) or difference(
-        (done.returncode, done.stdout, done.stderr, sizes_of(log)), (0, "0\n", "", [0])))
-
-
-def stormed(broken, folder):
-    """A handler that interrupts the unwinder locks as in a program that isn't recorded; each call is put or counted."""
-    program = compiled(folder, "storm.c", STORM, "-O1")
-    done, path = recorded(folder, program, options=["--stacks"])
-    log = read(reader, path)
-    put = sum(record.event in (reader.GRANTED, reader.FAILED) for record in log.records)
-    calls = int(done.stdout or 0)
-    fits = put <= calls <= put + log.head.left_out
-    check("signals while a stack is unwound", broken(log) or difference((done.returncode, done.stderr), (0, "")) or
-          (None if fits else f"{calls} calls, {put} answers, {log.head.left_out} left out"))
-    requests, = stacks_of(log).values()
-    sizes = {len(stack) for stack in requests}
-    check("each of its requests has a stack", None if min(sizes) > 1 else f"{sizes} frames")
-
-
-def dropped(broken, folder):
-    """With --last the frames of a request that was dropped are dropped, too."""
-    program = compiled(folder, "cycles.c", CYCLES, "-O1")
-    _, path = recorded(folder, program, options=["--stacks", "--last", "1M"])
-    log = read(reader, path)
-    thread, = stacks_of(log)
-    records = [record for record in log.records if record.chunk.thread == thread]
-    first = next(record.event for record in records if record.event not in (reader.THREAD, reader.NAME))
-    sizes = {len(stack) for stack in stacks_of(log)[thread]}
-    check("the latest stacks", broken(log) or difference(
-        (log.head.dropped > 0, reader.NAMES[first], sizes), (True, "failed", {6})))
-
-
-def crowded(broken, folder):
-    """A frame for whose place there is no room is put without, and counted."""
-    program = compiled(folder, "crowd.c", CROWD, "-O0", "-no-pie")
-    _, path = recorded(folder, program, options=["--stacks"])
-    log = read(reader, path)
-    placed = [record for record in log.records
-              if record.event in reader.WITH_PLACE and record.event != reader.WAITED]  # it has its WAIT's
-    check("the frames of a table that is full", broken(log) or difference(
-        (sizes_of(log), log.head.unplaced), ([1], sum(not record.place for record in placed))))
-    stack, = stacks_of(log)[2]
-    check("one of them has no place", difference((stack[1].place,), (None,)))
-
-
-def refused(_, folder):
-    """Without an unwinder the program runs, and a line says that it has no stacks. --kernel-only has no log."""
-    program = compiled(folder, "nest.c", NEST)
-    library = compiled(folder, "no_unwinder.c", NO_UNWINDER, "-shared", "-fPIC")
-    environment = {**os.environ, "LD_PRELOAD": str(library)}
-    done, _ = recorded(folder, program, options=["--stacks"], env=environment)
-    said = [" ".join(word for word in line.split() if not word.isdigit()) for line in done.stderr.splitlines()]
-    line = "pim-record: process has no stacks recorded: there is no libgcc_s.so.1"
-    check("a program without an unwinder", difference((done.returncode, {*said}), (0, {line})))
-    done, _ = recorded(folder, program, options=["--stacks", "--kernel-only"])
-    line = "pim-record: --kernel-only has no log, and --stacks needs one; nothing was run\n"
-    check("--stacks without a log", difference((done.returncode, done.stderr), (2, line)))
-
-
-def spoiled(_, folder):
-    """A request keeps errno, whatever the unwinder does."""
-    program = compiled(folder, "spoiled.c", SPOILED)
-    library = compiled(folder, "spoiler.c", SPOILER, "-shared", "-fPIC")
-    done, _ = recorded(folder, program, options=["--stacks"], env={**os.environ, "LD_PRELOAD": str(library)})
-    check("errno behind a request", difference((done.returncode, done.stdout, done.stderr), (0, "110 77\n", "")))
 
 
 # ---- logs by hand
@@ -455,38 +343,126 @@ BROKEN = [
 ]
 
 
-def by_hand(_):
-    """What pim-log says of frames, and which laws they keep."""
-    for number, (rows, wanted) in enumerate(BROKEN):
-        log = reader.Log(log_of([BEGUN, *rows], places=PLACES, times=SAME_TIME))
-        check(f"the laws of a stack, {number}", difference(reader.Checker(log).run(), wanted))
-    rows = [BEGUN, REQUEST, frame(1), frame(2), GRANTED]
-    log = reader.Log(log_of(rows, places=PLACES, times=[1010, 1020, 1021, 1020, 1030]))
-    got = [line for line in reader.Checker(log).run() if "another time" in line]
-    wanted = [f"record {number}: it has another time than the record before it" for number in (3, 4)]
-    check("the time of a frame", difference(got, wanted))
-    line = reader.line_of(log.records[2], 1000, log.place_of(log.records[2]), b"plan.c:88 (plan)")
-    check("the line of a frame", difference((line,), (
-        "3 0.000000021 t1 frame index=1 at=0x401200 plan.c:88 (plan)",)))
-    data = log_of(rows, places=PLACES, times=SAME_TIME)
-    data[8] = 2
-    check("version 2 has no frames", difference(
-        reader.Checker(reader.Log(data)).run(), [f"record {number}: there is no event 29" for number in (3, 4)]))
+class Stacks(Case):
+    @HAS_LINES
+    def test_callers_up_to_the_start(self):
+        """Two threads that wait have their callers, up to main or to the start routine."""
+        for level in ("-O0", "-O2"):
+            program = compiled(self.folder, "nest.c", NEST, level)
+            for options in ((), ("--last", "1M"), ("--last", "1M", "--contended")):
+                done, path = recorded(self.folder, program, options=["--stacks", *options])
+                fault = broken(read(path)) or difference((done.returncode, done.stdout, done.stderr), (0, "", ""))
+                got = told(path, "nest.c", NEST)
+                self.check(f"the callers of two threads, {' '.join((level, *options))}", fault or difference(
+                    [got.get(thread, ())[-1:] for thread in NESTED], [*NESTED.values()]))
+            _, path = recorded(self.folder, program)
+            self.equal(f"without --stacks there are none, {level}", (frames_in(read(path)),), (0,))
 
+    @HAS_LINES
+    def test_where_a_lock_guard_waits(self):
+        """Where a std::lock_guard waits, the stack begins in the function that has it, also if nothing is inlined."""
+        for level in ("-O0", "-Og", "-O2"):
+            program = compiled(self.folder, "guarded.cpp", GUARDED, level, compiler="g++")
+            if not program:
+                return self.skip("the callers of a std::lock_guard", "there is no g++")
+            for options in (("--stacks",), ("--stacks", "--last", "1M", "--contended")):
+                _, path = recorded(self.folder, program, options=options)
+                got = places_told(path, ("guarded.cpp", GUARDED))
+                self.check(f"the callers of a std::lock_guard, {' '.join((level, *options))}",
+                           broken(read(path)) or same(got, GUARDS))
 
-def stacks(attempt, broken, folder):
-    """Each part in a folder of its own."""
-    of_logs = (nested, guarded, deep, allocated, stormed, dropped, crowded, refused, spoiled)
-    if not any(map(shutil.which, places_text.SYMBOLIZERS)):
-        skip("the lines of stacks", "there is no addr2line")
-        of_logs = of_logs[2:]
-    for part in (*of_logs, by_hand):
-        own = pathlib.Path(folder, part.__name__)
-        own.mkdir()
-        attempt(part, *((broken,) if part in of_logs else ()), str(own))
+    def test_a_stack_has_16_frames_at_most(self):
+        """A stack has 16 frames at most, with the call's own place, and the last ones aren't those of the C library."""
+        program = compiled(self.folder, "deep.c", DEEP)
+        for depth in (1, 13, 14, 15, 16, 17, 40):
+            _, path = recorded(self.folder, program, str(depth), options=["--stacks"])
+            log = read(path)
+            self.check(f"the frames of {depth} functions",
+                       broken(log) or difference(sizes_of(log), [min(depth, MOST_CALLERS)]))
+            frames, = stacks_of(log)[2]
+            indexes = [record.value for record in frames[1:]]
+            self.check("their indexes", difference(indexes, [*range(1, len(frames))]))
 
+    def test_the_unwinder_does_not_allocate(self):
+        """The unwinder doesn't allocate while the program runs, also where that would lock a mutex."""
+        program = compiled(self.folder, "allocator.c", ALLOCATOR, "-fno-builtin")
+        done, path = recorded(self.folder, program, options=["--stacks"])
+        log = read(path)
+        self.check("a stack allocates nothing", broken(log) or difference(
+            (done.returncode, done.stdout, done.stderr, sizes_of(log)), (0, "0\n", "", [0])))
 
-if __name__ == "__main__":
-    with tempfile.TemporaryDirectory() as whole:
-        stacks(lambda part, *arguments: part(*arguments), first_fault, whole)
-    end()
+    def test_a_handler_that_interrupts_the_unwinder(self):
+        """A handler that interrupts the unwinder locks as in a program that isn't recorded; each call is put or counted."""
+        program = compiled(self.folder, "storm.c", STORM, "-O1")
+        done, path = recorded(self.folder, program, options=["--stacks"])
+        log = read(path)
+        put = sum(record.event in (reader.GRANTED, reader.FAILED) for record in log.records)
+        calls = int(done.stdout or 0)
+        fits = put <= calls <= put + log.head.left_out
+        self.check("signals while a stack is unwound", broken(log) or difference((done.returncode, done.stderr), (0, "")) or
+                   (None if fits else f"{calls} calls, {put} answers, {log.head.left_out} left out"))
+        requests, = stacks_of(log).values()
+        sizes = {len(stack) for stack in requests}
+        self.check("each of its requests has a stack", None if min(sizes) > 1 else f"{sizes} frames")
+
+    def test_frames_of_a_dropped_request_are_dropped(self):
+        """With --last the frames of a request that was dropped are dropped, too."""
+        program = compiled(self.folder, "cycles.c", CYCLES, "-O1")
+        _, path = recorded(self.folder, program, options=["--stacks", "--last", "1M"])
+        log = read(path)
+        thread, = stacks_of(log)
+        records = [record for record in log.records if record.chunk.thread == thread]
+        first = next(record.event for record in records if record.event not in (reader.THREAD, reader.NAME))
+        sizes = {len(stack) for stack in stacks_of(log)[thread]}
+        self.check("the latest stacks", broken(log) or difference(
+            (log.head.dropped > 0, reader.NAMES[first], sizes), (True, "failed", {6})))
+
+    def test_a_frame_without_room_for_its_place(self):
+        """A frame for whose place there is no room is put without, and counted."""
+        program = compiled(self.folder, "crowd.c", CROWD, "-O0", "-no-pie")
+        _, path = recorded(self.folder, program, options=["--stacks"])
+        log = read(path)
+        placed = [record for record in log.records
+                  if record.event in reader.WITH_PLACE and record.event != reader.WAITED]  # it has its WAIT's
+        self.check("the frames of a table that is full", broken(log) or difference(
+            (sizes_of(log), log.head.unplaced), ([1], sum(not record.place for record in placed))))
+        stack, = stacks_of(log)[2]
+        self.equal("one of them has no place", (stack[1].place,), (None,))
+
+    def test_without_an_unwinder_the_program_runs(self):
+        """Without an unwinder the program runs, and a line says that it has no stacks. --kernel-only has no log."""
+        program = compiled(self.folder, "nest.c", NEST)
+        library = compiled(self.folder, "no_unwinder.c", NO_UNWINDER, "-shared", "-fPIC")
+        environment = {**os.environ, "LD_PRELOAD": str(library)}
+        done, _ = recorded(self.folder, program, options=["--stacks"], env=environment)
+        said = [" ".join(word for word in line.split() if not word.isdigit()) for line in done.stderr.splitlines()]
+        line = "pim-record: process has no stacks recorded: there is no libgcc_s.so.1"
+        self.equal("a program without an unwinder", (done.returncode, {*said}), (0, {line}))
+        done, _ = recorded(self.folder, program, options=["--stacks", "--kernel-only"])
+        line = "pim-record: --kernel-only has no log, and --stacks needs one; nothing was run\n"
+        self.equal("--stacks without a log", (done.returncode, done.stderr), (2, line))
+
+    def test_a_request_keeps_errno(self):
+        """A request keeps errno, whatever the unwinder does."""
+        program = compiled(self.folder, "spoiled.c", SPOILED)
+        library = compiled(self.folder, "spoiler.c", SPOILER, "-shared", "-fPIC")
+        done, _ = recorded(self.folder, program, options=["--stacks"], env={**os.environ, "LD_PRELOAD": str(library)})
+        self.equal("errno behind a request", (done.returncode, done.stdout, done.stderr), (0, "110 77\n", ""))
+
+    def test_what_pim_log_says_of_frames(self):
+        """What pim-log says of frames, and which laws they keep."""
+        for number, (rows, wanted) in enumerate(BROKEN):
+            log = reader.Log(log_of([BEGUN, *rows], places=PLACES, times=SAME_TIME))
+            self.check(f"the laws of a stack, {number}", difference(reader.Checker(log).run(), wanted))
+        rows = [BEGUN, REQUEST, frame(1), frame(2), GRANTED]
+        log = reader.Log(log_of(rows, places=PLACES, times=[1010, 1020, 1021, 1020, 1030]))
+        got = [line for line in reader.Checker(log).run() if "another time" in line]
+        wanted = [f"record {number}: it has another time than the record before it" for number in (3, 4)]
+        self.equal("the time of a frame", got, wanted)
+        line = reader.line_of(log.records[2], 1000, log.place_of(log.records[2]), b"plan.c:88 (plan)")
+        self.check("the line of a frame", difference((line,), (
+            "3 0.000000021 t1 frame index=1 at=0x401200 plan.c:88 (plan)",)))
+        data = log_of(rows, places=PLACES, times=SAME_TIME)
+        data[8] = 2
+        self.check("version 2 has no frames", difference(
+            reader.Checker(reader.Log(data)).run(), [f"record {number}: there is no event 29" for number in (3, 4)]))

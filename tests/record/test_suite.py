@@ -1,12 +1,14 @@
-"""What tests/record does with suite/recordings: logs and kernel's events by hand, and what pim-facts writes of them.
-suite/recordings/README.md says what the files are."""
+"""suite/recordings: logs and kernel's events by hand, and what pim-facts writes of them.
+suite/recordings/README.md says what the files are.
+"""
 import importlib
 import pathlib
 import re
 import sys
 
-from tests.shared.checks import ROOT, answer, check, difference, files_of
-from tests.record.logs import change, read_text, reader
+from tests.cases import Case
+from tests.shared.checks import ROOT, answer, difference, files_of
+from tests.record.logs import change, read_text, reader, setUpModule
 
 SUITE, RECORDED = ROOT / "suite/recordings", ROOT / "record/recorded"
 CONVERTER, PLAIN = ROOT / "record/out/pim-facts", ROOT / "tests/facts/plain"
@@ -122,7 +124,7 @@ def said_otherwise(got, wanted):
 
 # ---- the files
 
-class Case:
+class Recorded:
     """A recording, and what must come of it, by the ends of the files' names. `others` are the files of programs that
     it started, by the ends of their names."""
 
@@ -173,7 +175,7 @@ def stored():
         if changes:
             cases += [changed(name, number, log, kernel, line) for number, line in enumerate(lines_of(changes))]
         else:
-            cases.append(Case(name, log, kernel, others=others, **parts))
+            cases.append(Recorded(name, log, kernel, others=others, **parts))
     return cases
 
 
@@ -197,7 +199,7 @@ def changed(name, number, log, kernel, line):
         lines = kernel.decode().splitlines()
         lines[int(at) - 1:int(at)] = [other]
         kernel = "".join(f"{one}\n" for one in lines).encode()
-    return Case(f"{name}_{number}", log, kernel, error=f"{why}\n")
+    return Recorded(f"{name}_{number}", log, kernel, error=f"{why}\n")
 
 
 NOT_A_LOG = "it isn't a log of pim-record, or only the beginning of one\n"
@@ -209,7 +211,7 @@ def prefixes():
     cases = []
     for name, end, step in (("damaged_log", None, 504), ("no_chunk_is_taken", reader.HEADER_BYTES[2], 6001)):
         whole = read_text((SUITE / f"{name}.log.txt").read_text())[:end]
-        cases += [Case(f"first_{size}_bytes_of_{name}", whole[:size], error=NOT_A_LOG if size < 4096 else CUT_SHORT)
+        cases += [Recorded(f"first_{size}_bytes_of_{name}", whole[:size], error=NOT_A_LOG if size < 4096 else CUT_SHORT)
                   for size in range(0, len(whole), step)]
     return cases
 
@@ -221,11 +223,12 @@ def kept():
         log = path.read_bytes() if path.suffix == ".log" else None
         kernel = path if log is None else pathlib.Path(f"{path}.kernel")
         wanted = {"rows": "\n".join(KEPT[path.name])} if path.name in KEPT else {}
-        cases.append(Case(path.name, log, kernel.read_bytes() if kernel.exists() else None, **wanted))
+        cases.append(Recorded(path.name, log, kernel.read_bytes() if kernel.exists() else None, **wanted))
     return cases
 
 
-def suite(folder):
-    """Plays each case with the pim-facts that is built."""
-    for case in [*stored(), *prefixes(), *kept()]:
-        check(f"the recording {case.name}", case.why(folder))
+class Recordings(Case):
+    def test_recordings_by_hand(self):
+        """Plays each case with the pim-facts that is built."""
+        for case in [*stored(), *prefixes(), *kept()]:
+            self.check(f"the recording {case.name}", case.why(self.folder))

@@ -1,7 +1,7 @@
-"""What tests/record does at a terminal: keys that stop and end a program under pim-record, with --kernel and without.
+"""At a terminal: keys that stop and end a program under pim-record, with --kernel and without.
 
-A small shell is the first process of the terminal's session. It runs pim-record as a job, as a shell with job control
-does, and reports each change of the job's status.
+A small shell is the first process of the terminal's session. It runs pim-record as a job, as a
+shell with job control does, and reports each change of the job's status.
 """
 import os
 import pathlib
@@ -11,7 +11,9 @@ import select
 import signal
 import time
 
-from tests.shared.checks import ROOT, SECONDS, answer, check, difference, is_gone, skip, stat_of, threads_of, until
+from tests.cases import Case
+from tests.record.logs import setUpModule
+from tests.shared.checks import ROOT, SECONDS, answer, difference, is_gone, stat_of, threads_of, until
 from tests.record.test_kernel import Tracefs, faults_of, guard_of, is_descendant
 from tests.record.test_places import compiled
 
@@ -320,33 +322,6 @@ wait $job
 """
 
 
-def outside(folder):
-    """In a process group whose first process is outside of the PID namespace, pim-record stays in its group."""
-    apart = ["unshare", "--pid", "--fork", "--mount-proc", "--kill-child"]
-    name = "stopped in a group of another PID namespace"
-    if answer([*apart, "true"])[0]:
-        return skip(name, "a PID namespace can't be made")
-    own = {"start_new_session": False, "preexec_fn": lambda: os.setpgid(0, 0)}  # an orphaned group can't be stopped
-    status, out, _ = answer([*apart, "sh", "-c", OUTSIDE, ROOT / "record/pim-record", folder], **own)
-    return check(name, difference((status, out), (128 + signal.SIGTERM, b"0 0\n")))
-
-
-PARTS = {"Ctrl-Z, fg, Ctrl-C": stops, "stopped again at once": stops_at_once, "stopped again by others": stops_again,
-         "a program that handles the keys": handles, "Ctrl-\\": quits,
-         "SIGTSTP to pim-record alone": one_process, "a stop of the program alone": program_alone,
-         "SIGSTOP to pim-record alone": stays, "a guard that was killed": unguarded,
-         "a stopped program that is killed": killed, "stops in quick succession": in_quick_succession,
-         "a terminal that is closed": leaves}
-
-
-def tried(name, part, folder, kernel, tracefs):
-    why = part(folder, kernel, tracefs)
-    if kernel and not why:
-        faults = faults_of(pathlib.Path(folder, "run.kernel").read_bytes())
-        why = "; ".join(faults) if until(lambda: not tracefs.own()) else "it left an instance"
-    check(f"at a terminal{' with --kernel' if kernel else ''}: {name}", why)
-
-
 def end_left():
     """Ends the jobs that a part has left, as one that broke off."""
     for job in [*LEFT]:
@@ -354,17 +329,71 @@ def end_left():
         job.close()
 
 
-def terminal(attempt, folder):
-    """Each part at a terminal, without --kernel and with it. One that breaks off leaves the others as they are."""
-    attempt(outside, folder)
-    tracefs = Tracefs()
-    try:
-        ways = [[]] if tracefs.missing else [[], ["--kernel"]]
-        if tracefs.missing:
-            skip("--kernel at a terminal", tracefs.missing)
-        for kernel in ways:
-            for name, part in PARTS.items():
-                attempt(tried, name, part, folder, kernel, tracefs)
-                end_left()
-    finally:
-        tracefs.end()
+class AtATerminal(Case):
+    KERNEL = []
+
+    def setUp(self):
+        self.tracefs = Tracefs()
+        self.addCleanup(self.tracefs.end)
+        self.addCleanup(end_left)
+        if self.KERNEL and self.tracefs.missing:
+            self.skipTest(self.tracefs.missing)
+
+    def plays(self, part):
+        """Plays a part, after which the kernel's events keep the laws, and no instance is left."""
+        self.assertFalse(part(self.folder, self.KERNEL, self.tracefs))
+        if self.KERNEL:
+            self.assertEqual(faults_of(pathlib.Path(self.folder, "run.kernel").read_bytes()), [])
+            self.assertTrue(until(lambda: not self.tracefs.own()), "it left an instance")
+
+    def test_ctrl_z_fg_and_ctrl_c(self):
+        self.plays(stops)
+
+    def test_stopped_again_at_once(self):
+        self.plays(stops_at_once)
+
+    def test_stopped_again_by_others(self):
+        self.plays(stops_again)
+
+    def test_a_program_that_handles_the_keys(self):
+        self.plays(handles)
+
+    def test_ctrl_backslash(self):
+        self.plays(quits)
+
+    def test_SIGTSTP_to_pim_record_alone(self):
+        self.plays(one_process)
+
+    def test_a_stop_of_the_program_alone(self):
+        self.plays(program_alone)
+
+    def test_SIGSTOP_to_pim_record_alone(self):
+        self.plays(stays)
+
+    def test_a_guard_that_was_killed(self):
+        self.plays(unguarded)
+
+    def test_a_stopped_program_that_is_killed(self):
+        self.plays(killed)
+
+    def test_stops_in_quick_succession(self):
+        self.plays(in_quick_succession)
+
+    def test_a_terminal_that_is_closed(self):
+        self.plays(leaves)
+
+
+class AtATerminalWithKernel(AtATerminal):
+    KERNEL = ["--kernel"]
+
+
+class OutsideOfTheNamespace(Case):
+    def test_stopped_in_a_group_of_another_PID_namespace(self):
+        """In a process group whose first process is outside of the namespace, pim-record stays in its group."""
+        apart = ["unshare", "--pid", "--fork", "--mount-proc", "--kill-child"]
+        if answer([*apart, "true"])[0]:
+            self.skipTest("a PID namespace can't be made")
+        # An orphaned group can't be stopped.
+        own = {"start_new_session": False, "preexec_fn": lambda: os.setpgid(0, 0)}
+        status, out, _ = answer([*apart, "sh", "-c", OUTSIDE, ROOT / "record/pim-record", self.folder], **own)
+        self.assertEqual((status, out), (128 + signal.SIGTERM, b"0 0\n"))

@@ -1,6 +1,8 @@
-"""What tests/record does with pim-facts: it writes of logs by hand what is written here, and of recordings, of random
-logs and of random kernel's events what plain_facts_of_log.py writes. Each text is one that the plain reader of facts
-finds valid. Damaged logs are refused, and clang's fuzzer finds no fault, where it is installed."""
+"""pim-facts: it writes of logs by hand what is written here, and of recordings, of random logs and
+of random kernel's events what plain_facts_of_log.py writes. Each text is one that the plain reader
+of facts finds valid. Damaged logs are refused, and clang's fuzzer finds no fault, where it is
+installed.
+"""
 import os
 import pathlib
 import random
@@ -8,14 +10,15 @@ import re
 import shutil
 import subprocess
 
+from tests.cases import Case, temporary_folder
 from tests.record import plain_facts_of_log
 from tests.record import random_futex_waits
 from tests.record import random_other_waits
 from tests.record import test_suite
-from tests.shared.checks import ROOT, SECONDS, answer, check, difference, skip
+from tests.shared.checks import ROOT, SECONDS, answer, difference
 from tests.record.random_log import RandomLog
 from tests.record.random_program import FIRST_TASK
-from tests.record.logs import log_of, read_text, reader
+from tests.record.logs import log_of, read_text, reader, setUpModule
 from tests.record.test_suite import CONVERTER, KERNEL_HEAD, ROWS
 
 LOGS, TEXTS, FIRST_SEED, FUZZED = 250, 15, 1, 3000
@@ -273,63 +276,6 @@ class Converter:
         return got or ROWS.answer(out)[1].strip() or None
 
 
-def by_hand(converter):
-    for name, (log, wanted, *events) in BY_HAND.items():
-        lines = [line.strip() for line in events[0].strip().splitlines()] if events else []
-        kernel = (KERNEL_HEAD + "\n".join([*lines, "end 500 0 0\n"])).encode() if lines else None
-        wanted = [line.strip() for line in wanted.split(",")]
-        data = bytes(read_text(log))
-        status, out, said = converter.run(data, None, kernel)
-        begin = ("facts", "mutex", "object")
-        lines = [line for line in out.decode().splitlines()
-                 if not line.startswith(begin) and not (line.startswith("thread 7") or line.endswith(" end"))]
-        check(f"facts of a log: {name}",
-              difference((status, said, *lines), (0, "", *wanted)) or converter.why(data, None, kernel))
-
-
-def recordings(converter):
-    """Recordings that are kept, and those by hand that aren't refused."""
-    for case in [*test_suite.kept(), *test_suite.stored()]:
-        if "error" not in case.wanted:
-            check(f"the facts of {case.name}",
-                  converter.why(case.log and bytes(case.log), case.places, case.kernel, case.other_logs()))
-
-
-def random_logs(converter):
-    """Random logs, of which each third is damaged, and random ones of waits for what isn't a mutex."""
-    differ = {}
-    for seed in range(FIRST_SEED, FIRST_SEED + LOGS):
-        kinds = {"log": RandomLog(seed).data()} | ({} if seed % 3 else {"other": random_other_waits.random_log(seed)})
-        for kind, data in kinds.items():
-            why = converter.why(bytes(data))
-            differ.update({f"{kind} {seed}: {why}": why} if why else {})
-    check(f"pim-facts writes of {LOGS} random logs what the plain implementation writes", next(iter(differ), None))
-
-
-def random_joined(converter):
-    """Random logs of programs that one started: those of odd seeds are of one version, and can be joined."""
-    differ = {}
-    for seed in range(FIRST_SEED, FIRST_SEED + LOGS, 2):
-        logs = [bytes(RandomLog(seed + more).data()) for more in (0, *random.Random(seed).sample(range(2, 99, 2), 2))]
-        texts = [f"{number} 0x401000 first.c:{number}\n- 0x5000 lock{number}\n".encode() for number in (1, 2, 3)]
-        kernel = kernel_of(seed) if seed % 8 == 1 else None
-        why = converter.why(logs[0], texts[0], kernel, [*zip(logs[1:], texts[1:])])
-        differ.update({f"{seed}: {why}": why} if why else {})
-    check(f"pim-facts writes of {LOGS // 2} programs with those that they started what the plain implementation writes",
-          next(iter(differ), None))
-
-
-def many_places(converter):
-    """Nine logs have more places than a record has numbers for."""
-    rows = [(1, reader.THREAD, 0x10, 0, 0, 0),
-            *((1, reader.GRANTED, 0x5000 | number << 48, 1, 4, 0) for number in (1, 8191, 8192))]
-    logs = [bytes(log_of(rows, 1, places=[0x1000 * part + at for at in range(1, 8193)], began=100 * part,
-                         times=[100 * part] * len(rows))) for part in range(1, 10)]
-    unplaced = converter.run(logs[0], None, None, [(log, b"") for log in logs[1:]])[1].count(b"\nunseen 4 records")
-    check("places for which there is no number",
-          converter.why(logs[0], None, None, [(log, b"") for log in logs[1:]]) or difference((unplaced,), (1,)))
-
-
 def kernel_of(seed):
     """Returns random events of the kernel, of which some tasks and mutexes are those of the random logs. They take as
     long as such a log."""
@@ -342,107 +288,144 @@ def kernel_of(seed):
     return "".join([*head, *(re.sub(r"(^|^end | lost \d+ )(\d+)", later, line) for line in lines)]).encode()
 
 
-def random_events(converter):
-    """Random events of the kernel, alone and of the time of a random log. Most break laws of their form."""
-    differ = {}
-    for seed in range(FIRST_SEED, FIRST_SEED + TEXTS):
-        kinds = {"alone": None, "of a log": RandomLog(seed).data(),
-                 "of other waits": random_other_waits.random_log(seed)}
-        for kind, data in kinds.items():
-            why = converter.why(data and bytes(data), None, kernel_of(seed))
-            differ.update({f"{kind} {seed}: {why}": why} if why else {})
-    check(f"pim-facts writes of {TEXTS} random texts of the kernel's events what the plain implementation writes",
-          next(iter(differ), None))
+class ToFacts(Case):
+    @classmethod
+    def setUpClass(cls):
+        cls.converter = Converter(temporary_folder(cls.addClassCleanup))
 
+    def test_logs_by_hand(self):
+        for name, (log, wanted, *events) in BY_HAND.items():
+            lines = [line.strip() for line in events[0].strip().splitlines()] if events else []
+            kernel = (KERNEL_HEAD + "\n".join([*lines, "end 500 0 0\n"])).encode() if lines else None
+            wanted = [line.strip() for line in wanted.split(",")]
+            data = bytes(read_text(log))
+            status, out, said = self.converter.run(data, None, kernel)
+            begin = ("facts", "mutex", "object")
+            lines = [line for line in out.decode().splitlines()
+                     if not line.startswith(begin) and not (line.startswith("thread 7") or line.endswith(" end"))]
+            self.check(f"facts of a log: {name}",
+                       difference((status, said, *lines), (0, "", *wanted)) or self.converter.why(data, None, kernel))
 
-def every_word(converter):
-    words = ("granted took waits gave-up released priority ceiling blocks resumes by timed-out failed none inherit"
+    def test_recordings_that_are_kept_have_each_word(self):
+        """Recordings that are kept, and those by hand that aren't refused. Each word is among their facts."""
+        for case in [*test_suite.kept(), *test_suite.stored()]:
+            if "error" not in case.wanted:
+                self.check(f"the facts of {case.name}",
+                           self.converter.why(case.log and bytes(case.log), case.places, case.kernel, case.other_logs()))
+        words = ("granted took waits gave-up released priority ceiling blocks resumes by timed-out failed none inherit"
              " protect recursive semaphore rwlock barrier thread condition futex runs on off ready asleep lost end"
              " unseen")
-    missing = [word for word in words.split() if word not in converter.words]
-    check("each word of facts is among these", f"no {missing}" if missing else None)
+        missing = [word for word in words.split() if word not in self.converter.words]
+        self.check("each word of facts is among these", f"no {missing}" if missing else None)
 
+    def test_random_logs(self):
+        """Random logs, of which each third is damaged, and random ones of waits for what isn't a mutex."""
+        differ = {}
+        for seed in range(FIRST_SEED, FIRST_SEED + LOGS):
+            kinds = {"log": RandomLog(seed).data()} | ({} if seed % 3 else {"other": random_other_waits.random_log(seed)})
+            for kind, data in kinds.items():
+                why = self.converter.why(bytes(data))
+                differ.update({f"{kind} {seed}: {why}": why} if why else {})
+        self.check(f"pim-facts writes of {LOGS} random logs what the plain implementation writes", next(iter(differ), None))
 
-def command(converter):
-    """What the command line and files that can't be used lead to."""
-    log, output = converter.path, pathlib.Path(f"{converter.path}.out")
-    data = (ROOT / "record/recorded/random.log").read_bytes()
-    _, text, _ = converter.run(data)
-    run = lambda *words: subprocess.run([CONVERTER, *words], capture_output=True, timeout=SECONDS, check=False)
-    helped = run("--help")
-    is_told = all(word in helped.stdout for word in (b"usage: pim-facts", b"Status:", b"$ pim-facts run"))
-    check("pim-facts --help says how it is used", difference((helped.returncode, is_told), (0, True)))
-    for option in ("-o", "--output"):
-        done = run(option, output, log)
-        check(f"pim-facts {option} writes a file",
-              difference((done.returncode, done.stdout, output.read_bytes() == text), (0, b"", True)))
-        output.unlink()
-    refused = {"no log": [], "two logs": [log, log], "an unknown option": ["-x", log], "no such file": [f"{log}.none"],
-               "a folder": [log.parent], "a file of a folder that isn't there": ["-o", f"{log}.none/facts", log],
-               "to write over the log": ["-o", log, log]}
-    for what, words in refused.items():
-        done = run(*words)
-        is_one = done.stderr.count(b"\n") in (1, 2) and b"pim-facts" in done.stderr
-        check(f"pim-facts refuses {what}", difference((done.returncode, done.stdout, is_one), (2, b"", True)))
-    kernel = f"{KERNEL_HEAD}end 500 0 0\n".encode()
-    for ending, read in (("", data), (".kernel", kernel), (".places", b"1 0x10 a.c:1\n")):
-        converter.run(data, b"1 0x10 a.c:1\n", kernel)
-        done = run("-o", f"{log}{ending}", log)
-        wanted = f"pim-facts: {log}{ending}: it is read, and so isn't written\n".encode()
-        check(f"pim-facts writes no LOG{ending}", difference(
-            (done.returncode, done.stdout, done.stderr, pathlib.Path(f"{log}{ending}").read_bytes()),
-            (2, b"", wanted, read)))
-    converter.run(data)
-    pipe = pathlib.Path(f"{log}.kernel")
-    os.mkfifo(pipe)
-    wanted = 2, b"", f"pim-facts: {pipe}: it isn't a file\n".encode()
-    check("pim-facts waits for no pipe", difference(answer([CONVERTER, log], b""), wanted))
-    pipe.unlink()
-    status, out, said = converter.run(None, None, KERNEL_HEAD.replace("clock ", "").encode())
-    wanted = "pim-facts: LOG.kernel: line 3: it isn't the line that the head has there\n"
-    check("a head of the kernel's events without its words is refused",
-          difference((status, out, said), (2, b"", wanted)))
-    converter.run(data[:100])
-    done = run("-o", output, log)
-    check("nothing is written of a log that is refused", difference((done.returncode, output.exists()), (2, False)))
-    with open("/dev/full", "wb") as full:
-        log.write_bytes(data)
-        done = subprocess.run([CONVERTER, log], stdout=full, stderr=subprocess.PIPE, timeout=SECONDS, check=False)
-    check("a text that can't be written is said",
-          difference((done.returncode, done.stderr), (2, b"pim-facts: standard output: No space left on device\n")))
+    def test_random_logs_of_several_programs(self):
+        """Random logs of programs that one started: those of odd seeds are of one version, and can be joined."""
+        differ = {}
+        for seed in range(FIRST_SEED, FIRST_SEED + LOGS, 2):
+            logs = [bytes(RandomLog(seed + more).data()) for more in (0, *random.Random(seed).sample(range(2, 99, 2), 2))]
+            texts = [f"{number} 0x401000 first.c:{number}\n- 0x5000 lock{number}\n".encode() for number in (1, 2, 3)]
+            kernel = kernel_of(seed) if seed % 8 == 1 else None
+            why = self.converter.why(logs[0], texts[0], kernel, [*zip(logs[1:], texts[1:])])
+            differ.update({f"{seed}: {why}": why} if why else {})
+        self.check(f"pim-facts writes of {LOGS // 2} programs with those that they started what the plain implementation writes",
+                   next(iter(differ), None))
 
+    def test_more_places_than_a_record_has_numbers_for(self):
+        """Nine logs have more places than a record has numbers for."""
+        rows = [(1, reader.THREAD, 0x10, 0, 0, 0),
+                *((1, reader.GRANTED, 0x5000 | number << 48, 1, 4, 0) for number in (1, 8191, 8192))]
+        logs = [bytes(log_of(rows, 1, places=[0x1000 * part + at for at in range(1, 8193)], began=100 * part,
+                             times=[100 * part] * len(rows))) for part in range(1, 10)]
+        unplaced = self.converter.run(logs[0], None, None, [(log, b"") for log in logs[1:]])[1].count(b"\nunseen 4 records")
+        self.check("places for which there is no number",
+                   self.converter.why(logs[0], None, None, [(log, b"") for log in logs[1:]]) or difference((unplaced,), (1,)))
 
-def generated(converter):
-    """Logs of many records take no time that grows with their square, whatever is in them."""
-    generate = ROOT / "record/out/generate"
-    for options in (["-t", "300", "-m", "1", "-c", "100"], ["-t", "1", "-m", "1"], ["-t", "16", "-m", "50000"]):
-        subprocess.run([generate, "-n", "200000", *options, converter.path], check=True, timeout=SECONDS)
-        done = subprocess.run([CONVERTER, converter.path], capture_output=True, timeout=SECONDS, check=False)
-        check(f"facts of 200,000 records: generate {' '.join(options)}",
-              difference((done.returncode, done.stdout.count(b"\n") > 140000), (0, True)))
+    def test_random_events(self):
+        """Random events of the kernel, alone and of the time of a random log. Most break laws of their form."""
+        differ = {}
+        for seed in range(FIRST_SEED, FIRST_SEED + TEXTS):
+            kinds = {"alone": None, "of a log": RandomLog(seed).data(),
+                     "of other waits": random_other_waits.random_log(seed)}
+            for kind, data in kinds.items():
+                why = self.converter.why(data and bytes(data), None, kernel_of(seed))
+                differ.update({f"{kind} {seed}: {why}": why} if why else {})
+        self.check(f"pim-facts writes of {TEXTS} random texts of the kernel's events what the plain implementation writes",
+                   next(iter(differ), None))
 
+    def test_command_line_and_files(self):
+        """What the command line and files that can't be used lead to."""
+        log, output = self.converter.path, pathlib.Path(f"{self.converter.path}.out")
+        data = (ROOT / "record/recorded/random.log").read_bytes()
+        _, text, _ = self.converter.run(data)
+        run = lambda *words: subprocess.run([CONVERTER, *words], capture_output=True, timeout=SECONDS, check=False)
+        helped = run("--help")
+        is_told = all(word in helped.stdout for word in (b"usage: pim-facts", b"Status:", b"$ pim-facts run"))
+        self.equal("pim-facts --help says how it is used", (helped.returncode, is_told), (0, True))
+        for option in ("-o", "--output"):
+            done = run(option, output, log)
+            self.check(f"pim-facts {option} writes a file",
+                       difference((done.returncode, done.stdout, output.read_bytes() == text), (0, b"", True)))
+            output.unlink()
+        refused = {"no log": [], "two logs": [log, log], "an unknown option": ["-x", log], "no such file": [f"{log}.none"],
+                   "a folder": [log.parent], "a file of a folder that isn't there": ["-o", f"{log}.none/facts", log],
+                   "to write over the log": ["-o", log, log]}
+        for what, words in refused.items():
+            done = run(*words)
+            is_one = done.stderr.count(b"\n") in (1, 2) and b"pim-facts" in done.stderr
+            self.equal(f"pim-facts refuses {what}", (done.returncode, done.stdout, is_one), (2, b"", True))
+        kernel = f"{KERNEL_HEAD}end 500 0 0\n".encode()
+        for ending, read in (("", data), (".kernel", kernel), (".places", b"1 0x10 a.c:1\n")):
+            self.converter.run(data, b"1 0x10 a.c:1\n", kernel)
+            done = run("-o", f"{log}{ending}", log)
+            wanted = f"pim-facts: {log}{ending}: it is read, and so isn't written\n".encode()
+            self.check(f"pim-facts writes no LOG{ending}", difference(
+                (done.returncode, done.stdout, done.stderr, pathlib.Path(f"{log}{ending}").read_bytes()),
+                (2, b"", wanted, read)))
+        self.converter.run(data)
+        pipe = pathlib.Path(f"{log}.kernel")
+        os.mkfifo(pipe)
+        wanted = 2, b"", f"pim-facts: {pipe}: it isn't a file\n".encode()
+        self.check("pim-facts waits for no pipe", difference(answer([CONVERTER, log], b""), wanted))
+        pipe.unlink()
+        status, out, said = self.converter.run(None, None, KERNEL_HEAD.replace("clock ", "").encode())
+        wanted = "pim-facts: LOG.kernel: line 3: it isn't the line that the head has there\n"
+        self.check("a head of the kernel's events without its words is refused",
+                   difference((status, out, said), (2, b"", wanted)))
+        self.converter.run(data[:100])
+        done = run("-o", output, log)
+        self.equal("nothing is written of a log that is refused", (done.returncode, output.exists()), (2, False))
+        with open("/dev/full", "wb") as full:
+            log.write_bytes(data)
+            done = subprocess.run([CONVERTER, log], stdout=full, stderr=subprocess.PIPE, timeout=SECONDS, check=False)
+        self.check("a text that can't be written is said",
+                   difference((done.returncode, done.stderr), (2, b"pim-facts: standard output: No space left on device\n")))
 
-def fuzz():
-    name = f"{FUZZED} made inputs have no fault"
-    probe = "int LLVMFuzzerTestOneInput(const char *data, unsigned long size) { return !data && size; }"
-    words = ["clang", "-fsanitize=fuzzer", "-x", "c", "-", "-o", "/dev/null"]
-    if not shutil.which("clang") or subprocess.run(words, input=probe.encode(), stderr=subprocess.DEVNULL,
-                                                   check=False).returncode:
-        return skip(name, "there is no clang with a fuzzer")
-    done = subprocess.run(["make", "-s", "-C", ROOT / "record", "fuzz-facts", f"RUNS={FUZZED}"], capture_output=True,
-                          text=True, errors="replace", timeout=SECONDS, check=False)
-    return check(name, done.stderr[-600:] if done.returncode else None)
+    def test_logs_of_many_records(self):
+        """Logs of many records take no time that grows with their square, whatever is in them."""
+        generate = ROOT / "record/out/generate"
+        for options in (["-t", "300", "-m", "1", "-c", "100"], ["-t", "1", "-m", "1"], ["-t", "16", "-m", "50000"]):
+            subprocess.run([generate, "-n", "200000", *options, self.converter.path], check=True, timeout=SECONDS)
+            done = subprocess.run([CONVERTER, self.converter.path], capture_output=True, timeout=SECONDS, check=False)
+            self.check(f"facts of 200,000 records: generate {' '.join(options)}",
+                       difference((done.returncode, done.stdout.count(b"\n") > 140000), (0, True)))
 
-
-def to_facts(folder):
-    converter = Converter(folder)
-    by_hand(converter)
-    recordings(converter)
-    random_logs(converter)
-    random_joined(converter)
-    many_places(converter)
-    random_events(converter)
-    every_word(converter)
-    command(converter)
-    generated(converter)
-    fuzz()
+    def test_made_inputs_have_no_fault(self):
+        name = f"{FUZZED} made inputs have no fault"
+        probe = "int LLVMFuzzerTestOneInput(const char *data, unsigned long size) { return !data && size; }"
+        words = ["clang", "-fsanitize=fuzzer", "-x", "c", "-", "-o", "/dev/null"]
+        if not shutil.which("clang") or subprocess.run(words, input=probe.encode(), stderr=subprocess.DEVNULL,
+                                                       check=False).returncode:
+            return self.skip(name, "there is no clang with a fuzzer")
+        done = subprocess.run(["make", "-s", "-C", ROOT / "record", "fuzz-facts", f"RUNS={FUZZED}"], capture_output=True,
+                              text=True, errors="replace", timeout=SECONDS, check=False)
+        self.check(name, done.stderr[-600:] if done.returncode else None)

@@ -1,14 +1,11 @@
-"""The part of tests/record about what pim-record says of waits that aren't recorded, by what a program imports.
-
-`python3 -m tests.record.test_unseen` plays it alone.
-"""
+"""What pim-record says of waits that aren't recorded, by what a program imports."""
 import pathlib
 import struct
 import subprocess
-import tempfile
 
-from tests.shared.checks import ROOT, answer, check, difference, end
-from tests.record.logs import without_end
+from tests.cases import Case
+from tests.shared.checks import ROOT, answer, difference
+from tests.record.logs import setUpModule, without_end
 
 PIM_RECORD = ROOT / "record/pim-record"
 CALLS = {
@@ -75,33 +72,28 @@ def without_sections(program, begin):
     return copy
 
 
-def unseen(folder):
-    """Plays all of it."""
-    cases = {
-        (): "",
-        ("sem_wait", "sem_timedwait", "pthread_rwlock_rdlock", "pthread_rwlock_wrlock", "pthread_barrier_wait",
-         "pthread_create"): "",
-        ("pthread_spin_lock",): "pthread_spin_lock",
-        ("sem_timedwait", "syscall", "pthread_create"): "syscall",
-        ("syscall",): "",
-        ("thrd_join",): "thrd_join",
-        ("mtx_timedlock", "mtx_lock", "thrd_join", "pthread_spin_lock"): "pthread_spin_lock and mtx_lock",
-        ("syscall", "pthread_create", "pthread_spin_lock", "mtx_timedlock", "pthread_barrier_wait"):
-            "pthread_spin_lock, mtx_timedlock and syscall",
-    }
-    for names, listed in cases.items():
-        program = built(folder, *names)
-        line = f"pim-record: {program} also calls {listed}: what waits by these isn't recorded\n"
-        got = said(folder, program)
-        check(f"a program that calls {', '.join(names) or 'nothing else'}", difference(got, (0, line if listed else "")))
-    program = built(folder, "mtx_lock")
-    for name, begin in (("no sections", 0), ("sections behind its end", 1 << 40), ("sections at an odd place", 65)):
-        check(f"a program with {name}", difference(said(folder, without_sections(program, begin)), (0, "")))
-    status, err = said(folder, "./nowhere")
-    check("nothing more is said of what isn't run", difference((status, err.count("\n")), (127, 1)))
-
-
-if __name__ == "__main__":
-    with tempfile.TemporaryDirectory() as own:
-        unseen(own)
-    end()
+class Unseen(Case):
+    def test_what_waits_unseen(self):
+        """Plays all of it."""
+        cases = {
+            (): "",
+            ("sem_wait", "sem_timedwait", "pthread_rwlock_rdlock", "pthread_rwlock_wrlock", "pthread_barrier_wait",
+             "pthread_create"): "",
+            ("pthread_spin_lock",): "pthread_spin_lock",
+            ("sem_timedwait", "syscall", "pthread_create"): "syscall",
+            ("syscall",): "",
+            ("thrd_join",): "thrd_join",
+            ("mtx_timedlock", "mtx_lock", "thrd_join", "pthread_spin_lock"): "pthread_spin_lock and mtx_lock",
+            ("syscall", "pthread_create", "pthread_spin_lock", "mtx_timedlock", "pthread_barrier_wait"):
+                "pthread_spin_lock, mtx_timedlock and syscall",
+        }
+        for names, listed in cases.items():
+            program = built(self.folder, *names)
+            line = f"pim-record: {program} also calls {listed}: what waits by these isn't recorded\n"
+            got = said(self.folder, program)
+            self.equal(f"a program that calls {', '.join(names) or 'nothing else'}", got, (0, line if listed else ""))
+        program = built(self.folder, "mtx_lock")
+        for name, begin in (("no sections", 0), ("sections behind its end", 1 << 40), ("sections at an odd place", 65)):
+            self.check(f"a program with {name}", difference(said(self.folder, without_sections(program, begin)), (0, "")))
+        status, err = said(self.folder, "./nowhere")
+        self.equal("nothing more is said of what isn't run", (status, err.count("\n")), (127, 1))

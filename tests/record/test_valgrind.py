@@ -1,9 +1,10 @@
-"""What tests/record does with programs under valgrind, and with callers that were linked without the C library."""
+"""Programs under valgrind, and with callers that were linked without the C library."""
 import pathlib
 import re
 import shutil
 
-from tests.shared.checks import check, difference, skip
+from tests.cases import Case
+from tests.record.logs import setUpModule
 from tests.record.test_collector import PROGRAMS, RECORD, run
 
 # Linked without the C library, it gets the oldest form of each function, which initialises little of the memory. A
@@ -27,41 +28,37 @@ int main(void) {
 """
 
 
-def unversioned(folder):
-    """A library whose functions have no version."""
-    for name, text in (("signal.c", SIGNAL), ("main.c", MAIN)):
-        pathlib.Path(folder, name).write_text(text)
-    library, program = f"{folder}/libsignal.so", f"{folder}/main"
-    for command in (("-shared", "-fPIC", "-nostdlib", f"{folder}/signal.c", "-o", library),
-                    (f"{folder}/main.c", library, "-o", program)):
-        done = run("cc", *command)
-        if done.returncode:
-            return check("a caller that was linked without the C library", f"it isn't built: {done.stderr[:200]}")
-    plain = run("timeout", "-s", "KILL", "100", program).returncode
-    done = run(RECORD / "pim-record", "-o", f"{folder}/run", "timeout", "-s", "KILL", "100", program)
-    return check("a caller that was linked without the C library", difference((plain, done.returncode), (0, 0)))
+class Valgrind(Case):
+    def test_a_caller_that_was_linked_without_the_c_library(self):
+        """Its library has functions without a version."""
+        for name, text in (("signal.c", SIGNAL), ("main.c", MAIN)):
+            pathlib.Path(self.folder, name).write_text(text)
+        library, program = f"{self.folder}/libsignal.so", f"{self.folder}/main"
+        for command in (("-shared", "-fPIC", "-nostdlib", f"{self.folder}/signal.c", "-o", library),
+                        (f"{self.folder}/main.c", library, "-o", program)):
+            done = run("cc", *command)
+            self.assertEqual(done.returncode, 0, f"it isn't built: {done.stderr[:200]}")
+        plain = run("timeout", "-s", "KILL", "100", program).returncode
+        done = run(RECORD / "pim-record", "-o", f"{self.folder}/run", "timeout", "-s", "KILL", "100", program)
+        self.assertEqual((plain, done.returncode), (0, 0))
 
+    def finds_no_error(self, tool):
+        """A tool that finds no error in a program finds none if that is recorded, and the program ends."""
+        if not shutil.which("valgrind"):
+            self.skipTest("valgrind isn't installed")
+        command = "valgrind", f"--tool={tool}", PROGRAMS / "pair", "300", "2"
+        plain = run(*command)
+        if plain.returncode or "ERROR SUMMARY: 0 errors" not in plain.stderr:
+            self.skipTest(f"it has errors without the recorder, or can't run: {plain.stderr[-200:]}")
+        done = run(RECORD / "pim-record", "-o", f"{self.folder}/run", "timeout", "-s", "KILL", "200", *command)
+        said = re.findall(r"ERROR SUMMARY: (\d+) errors", done.stderr)
+        self.assertEqual((done.returncode, said), (0, ["0"]))
 
-def tool(folder, name):
-    """A tool that finds no error in a program finds none if that is recorded, and the program ends."""
-    command = "valgrind", f"--tool={name}", PROGRAMS / "pair", "300", "2"
-    plain = run(*command)
-    if plain.returncode or "ERROR SUMMARY: 0 errors" not in plain.stderr:
-        why = f"it has errors without the recorder, or can't run: {plain.stderr[-200:]}"
-        return skip(f"a program under {name}", why)
-    done = run(RECORD / "pim-record", "-o", f"{folder}/run", "timeout", "-s", "KILL", "200", *command)
-    said = re.findall(r"ERROR SUMMARY: (\d+) errors", done.stderr)
-    return check(f"a program under {name}", difference((done.returncode, said), (0, ["0"])))
+    def test_a_program_under_memcheck(self):
+        self.finds_no_error("memcheck")
 
+    def test_a_program_under_helgrind(self):
+        self.finds_no_error("helgrind")
 
-def valgrind(attempt, folder):
-    """Each part in a folder of its own."""
-    parts = [(unversioned,)]
-    if shutil.which("valgrind"):
-        parts += [(tool, "memcheck"), (tool, "helgrind"), (tool, "drd")]
-    else:
-        skip("programs under valgrind", "it isn't installed")
-    for part, *arguments in parts:
-        own = pathlib.Path(folder, "_".join((part.__name__, *arguments)))
-        own.mkdir()
-        attempt(part, str(own), *arguments)
+    def test_a_program_under_drd(self):
+        self.finds_no_error("drd")

@@ -62,7 +62,7 @@ async function contents(name) {
   await open(name)
   check(`${name}: the heading`, differs(await all('h1', 'it.textContent'), [report.verdict[0]]))
   const words = await import(`data:text/javascript,${encodeURIComponent(
-    readFileSync(new URL('../report/page/words.js', import.meta.url), 'utf8'))}`)
+    readFileSync(new URL('../../report/page/words.js', import.meta.url), 'utf8'))}`)
   const wanted = report.findings.map(it =>
     [it.times.toLocaleString('en'), ...[it.worst, it.total].map(time => time ? words.duration(time) : '')])
   const cells = "['times', 'worst', 'total'].map(name => it.querySelector('.' + name).textContent)"

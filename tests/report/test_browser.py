@@ -1,59 +1,31 @@
-"""The page of a report in a browser: makes pages, and has tests/report/page.mjs use them."""
+"""The page of a report in a browser: makes pages, and has tests/report/page.mjs use them.
+
+The environment variable SHOTS names a folder for pictures of it.
+"""
 import json
+import os
+import pathlib
 import re
 import shutil
 
-import pack
-from tests.shared.checks import ROOT, answer, check, difference, skip
+from tests.cases import Case
+from tests.report.texts import SUITE, PERIODS, found_in, large
+from tests.shared.checks import ROOT, answer, difference
 from facts_text import Facts
 from findings import Findings
 from html_page import page_of
 from json_report import json_of
+import pack
 from recording import Recording
 from rows_text import Rows
 from words import duration, shares
 
-PERIODS, FACTS = 5_000, 13  # and the facts of each
 PAGE = ROOT / "report/page"
 
 
-def large(periods=PERIODS):
-    """Returns facts of two threads that lock two mutexes again and again, and their rows.
-
-    The rows of so many facts are written here: the plain implementation takes too long.
-    """
-    facts = ["facts 1", "thread 1 30 high", "thread 2 10 low", "mutex 1 none lock@lock.c:4",
-             "mutex 2 inherit other@lock.c:5"]
-    rows, gone, first = [], 0, len(facts) + 1
-    for at in range(periods):
-        begin, line, lasted = at * 10_000, first + FACTS * at, 1_000 + 7 * (at * 37 % 613)
-        facts += [f"{begin} 2 granted 1 low.c:{at % 9}", f"{begin + 500} 1 waits 1 high.c:{at % 7}",
-                  f"{begin + 500 + lasted} 2 released 1", f"{begin + 500 + lasted} 1 granted 1",
-                  f"{begin + 8_000} 1 released 1"]
-        facts += [f"{begin + 8_000 + 100 * one} 1 {what} 2 high.c:{70 + one}"
-                  for one in range(4) for what in ("granted", "released")]
-        rows.append(f"wait {line + 1} {line + 3} 1 1 {begin + 500} {lasted} 30 30 2 10 {line}"
-                    f" {lasted} {lasted} 0")
-        rows.append(f"inverted {line + 1} 1 2 10 {lasted}")
-        gone = begin + 8_300
-    rows.append(f"end {len(facts)} {gone} {periods} {periods} 0")
-    return ("\n".join(facts) + "\n").encode(), "\n".join(rows) + "\n"
-
-
-def crowd(rounds):
-    """Returns facts of 63 threads that wait for one mutex, and get it in turn."""
-    facts = ["facts 1", *(f"thread {t} {t} t{t}" for t in range(1, 64)), "mutex 1 inherit m"]
-    for _ in range(rounds):
-        facts += ["0 1 granted 1", *(f"0 {t} waits 1" for t in range(2, 64))]
-        for t in range(1, 63):
-            facts += [f"0 {t} released 1", f"0 {t + 1} granted 1"]
-        facts.append("0 63 released 1")
-    return ("\n".join(facts) + "\n").encode()
-
-
-def write_pages(folder, suite, found_in):
+def write_pages(folder):
     """Writes the pages of the suite, of a text of no threads, and of a large one."""
-    for file in [*sorted(suite.glob("*.facts")), None]:
+    for file in [*sorted(SUITE.glob("*.facts")), None]:
         found = found_in(file.read_bytes() if file else b"facts 1\n")[0]
         write_page(folder, file.stem if file else "nothing", found)
     for name, periods, most in (("large", PERIODS, pack.MOST_ITEMS), ("windows", 400, 1_000)):
@@ -66,41 +38,6 @@ def write_pages(folder, suite, found_in):
 def write_page(folder, name, found):
     (folder / f"{name}.html").write_text(page_of(name, found), encoding="utf-8")
     (folder / f"{name}.json").write_text(json_of(found), encoding="utf-8")
-
-
-def use(folder, shots):
-    """Uses the pages in a browser, if there is one."""
-    chromium = shutil.which("chromium") or shutil.which("google-chrome")
-    if not shutil.which("node") or not chromium:
-        return skip("the page in a browser", "node or chromium is missing")
-    script = ROOT / "tests/report/page.mjs"
-    words = ["node", str(script), chromium, str(folder), *([str(shots)] if shots else [])]
-    status, out, err = answer(words)
-    for line in out.decode().splitlines():
-        check(*json.loads(line))
-    check("the browser was used up to the end", difference((status, err), (0, b"")))
-
-
-def same_words():
-    """Times are said in the same words in Python and in JavaScript."""
-    if not shutil.which("node"):
-        return skip("the words of the page", "node is missing")
-    times = [0, 1, 999, 1_000, 9_994, 9_995, 9_996, 99_949, 99_950, 999_499, 999_500, 10**6, 10**9]
-    halves = 1_005, 1_015, 12_050, 830_500
-    times += [unit * half for unit in (1, 1_000, 10**6) for half in halves]
-    times += [at**5 * 7 for at in range(1, 400)] + [10**exponent - 5 for exponent in range(1, 16)]
-    parts = [[f"t{at}", time] for at, time in enumerate(times[:9])]
-    script = f"""const text = require('fs').readFileSync({str(PAGE / 'words.js')!r}, 'utf8')
-import('data:text/javascript,' + encodeURIComponent(text)).then(({{ duration, shares }}) => {{
-  const parts = {json.dumps(parts)}
-  const said = {json.dumps(times)}.map(duration)
-  console.log(JSON.stringify([said, [1, 2, 9].map(n => shares(parts, n))]))
-}})"""
-    _, out, err = answer(["node", "-e", script])
-    wanted = [[duration(time) for time in times], [shares(parts, most) for most in (1, 2, 9)]]
-    got = json.loads(out or "[]") or [[], [err.decode()]]
-    check("times in the words of the page", difference(tuple(got[0]), tuple(wanted[0])))
-    check("shares in the words of the page", difference(tuple(got[1]), tuple(wanted[1])))
 
 
 def colours():
@@ -128,12 +65,47 @@ def contrast(one, other):
     return (high + 0.05) / (low + 0.05)
 
 
-def legible():
-    """Texts have a contrast of 4.5 at least, and shapes that say something one of 3."""
-    texts = [(ink, ground) for ink in ("ink", "soft", "mute", "late") for ground in ("bg", "panel")]
-    texts += [("own-ink", "own"), ("late-ink", "panel"), ("panel", "ink")]
-    shapes = [(shape, "bg") for shape in ("wait", "late", "boost", "stay", "now")]
-    for theme, known in colours().items():
-        low = [f"{one} on {other}" for least, pairs in ((4.5, texts), (3, shapes))
-               for one, other in pairs if contrast(known[one], known[other]) < least]
-        check(f"contrasts, {theme}", ", ".join(low))
+class Browser(Case):
+    def test_pages_in_a_browser(self):
+        """Uses the pages in a browser, if there is one."""
+        chromium = shutil.which("chromium") or shutil.which("google-chrome")
+        if not shutil.which("node") or not chromium:
+            self.skipTest("node or chromium is missing")
+        write_pages(pathlib.Path(self.folder))
+        script = ROOT / "tests/report/page.mjs"
+        words = ["node", str(script), chromium, str(pathlib.Path(self.folder)), *filter(None, [os.environ.get("SHOTS")])]
+        status, out, err = answer(words)
+        for line in out.decode().splitlines():
+            self.check(*json.loads(line))
+        self.equal("the browser was used up to the end", (status, err), (0, b""))
+
+    def test_words_are_those_of_the_report(self):
+        """Times are said in the same words in Python and in JavaScript."""
+        if not shutil.which("node"):
+            self.skipTest("node is missing")
+        times = [0, 1, 999, 1_000, 9_994, 9_995, 9_996, 99_949, 99_950, 999_499, 999_500, 10**6, 10**9]
+        halves = 1_005, 1_015, 12_050, 830_500
+        times += [unit * half for unit in (1, 1_000, 10**6) for half in halves]
+        times += [at**5 * 7 for at in range(1, 400)] + [10**exponent - 5 for exponent in range(1, 16)]
+        parts = [[f"t{at}", time] for at, time in enumerate(times[:9])]
+        script = f"""const text = require('fs').readFileSync({str(PAGE / 'words.js')!r}, 'utf8')
+import('data:text/javascript,' + encodeURIComponent(text)).then(({{ duration, shares }}) => {{
+  const parts = {json.dumps(parts)}
+  const said = {json.dumps(times)}.map(duration)
+  console.log(JSON.stringify([said, [1, 2, 9].map(n => shares(parts, n))]))
+}})"""
+        _, out, err = answer(["node", "-e", script])
+        wanted = [[duration(time) for time in times], [shares(parts, most) for most in (1, 2, 9)]]
+        got = json.loads(out or "[]") or [[], [err.decode()]]
+        self.check("times in the words of the page", difference(tuple(got[0]), tuple(wanted[0])))
+        self.check("shares in the words of the page", difference(tuple(got[1]), tuple(wanted[1])))
+
+    def test_contrasts(self):
+        """Texts have a contrast of 4.5 at least, and shapes that say something one of 3."""
+        texts = [(ink, ground) for ink in ("ink", "soft", "mute", "late") for ground in ("bg", "panel")]
+        texts += [("own-ink", "own"), ("late-ink", "panel"), ("panel", "ink")]
+        shapes = [(shape, "bg") for shape in ("wait", "late", "boost", "stay", "now")]
+        for theme, known in colours().items():
+            low = [f"{one} on {other}" for least, pairs in ((4.5, texts), (3, shapes))
+                   for one, other in pairs if contrast(known[one], known[other]) < least]
+            self.check(f"contrasts, {theme}", ", ".join(low))

@@ -7,15 +7,17 @@ import time
 import zlib
 from collections import Counter, defaultdict
 
-import pack
+from tests.cases import Case
+from tests.report.texts import SUITE, all_findings, found_in, large, random_findings, said
+from tests.shared.checks import ROOT
 from asleep import Sleeps
 from bounds import Bounds
-from tests.shared.checks import ROOT, check
 from facts_text import Facts
 from findings import Findings
 from html_page import page_of
 from json_report import json_of
 from lines import line_of, lines_of
+import pack
 from recording import Recording
 from rows_text import Rows, Wait
 from stretches import Stretches
@@ -42,6 +44,7 @@ mutex 2 inherit b
 50 2 released 2
 50 end
 """
+HOSTILE = b"facts 1\nthread 1 9 <!--<script>\nmutex 1 none </script>\n0 1 granted 1 <img>\n"
 READ = ("waits", "blocks", "granted", "took", "gave-up", "released", "resumes", "on", "off",
         "lost")
 TIME = r"([\d.,]+ (?:s|ms|us|ns))"
@@ -66,14 +69,6 @@ def documented():
     listed = {key for cell, _ in cells for key in re.findall(r"`(\w+)`", cell)}
     inner = {key for _, text in cells for key in re.findall(r"`(\w+)`", text)}
     return listed, listed | inner
-
-
-def keys(found):
-    """Each key of the JSON is on the page, and each key of a table there is in some JSON."""
-    used = {key for one in found for key in keys_in(json.loads(json_of(one, True)))}
-    listed, named = documented()
-    check("each key is on the page", ", ".join(sorted(used - named)))
-    check("each key of the page is there", ", ".join(sorted(listed - used)))
 
 
 def numbers_of(row):
@@ -105,17 +100,6 @@ def placed(found):
                 yield row, key, list(found.facts.places(row.get(line, 0)))
 
 
-def json_rows(found):
-    """The rows can be read again from the JSON, with the places of their lines."""
-    wrong = []
-    for seed, (_, one, out) in enumerate(found):
-        again = [" ".join(map(str, row)) for row in rows_again(json.loads(json_of(one)))]
-        is_placed = all(row.get(key, places) == places for row, key, places in placed(one))
-        if sorted(again) != sorted(out.splitlines()) or not is_placed:
-            wrong.append(str(seed))
-    check("the JSON has all rows", ", ".join(wrong[:5]))
-
-
 def figures(text, titles):
     """Returns times, worst and sum of each finding that a text has, by section."""
     found, kind = [], None
@@ -126,22 +110,6 @@ def figures(text, titles):
         if kind and row:
             found.append((kind, *row.groups()))
     return found
-
-
-def same_findings(found):
-    """The text and the JSON have the same findings, with the same numbers and sentences."""
-    import terminal
-    wrong = []
-    for seed, one in enumerate(found):
-        text, value = Terminal(one, most=10**9).text(), json.loads(json_of(one))
-        wanted = [(it["kind"], f"{it['times']:,}", duration(it["worst"]), duration(it["total"]))
-                  for it in value["findings"] if it["kind"] not in ("deadlock", "orders")]
-        said = " ".join(text.split())
-        lacks = [line for line in value["verdict"] + value["unseen"]
-                 if " ".join(line.split()) not in said]
-        if figures(text, terminal.TITLES) != wanted or lacks:
-            wrong.append(f"{seed} {lacks}")
-    check("the text and the JSON say the same", ", ".join(wrong[:5]))
 
 
 # ---- the page
@@ -296,33 +264,13 @@ def page_difference(one):
     return None if is_same else "text"
 
 
-def pages(found):
-    """The page has the numbers of the JSON; its stretches add up to the sums of the rows."""
-    wrong = []
-    for at, one in enumerate(found):
-        why = page_difference(one)
-        wrong += [f"{at}: {why}"] if why else []
-    check("the page and the JSON say the same", ", ".join(wrong[:5]))
-
-
-def network(page):
-    """A page asks for nothing, and is small."""
-    found = re.findall(r"https?:|//\w+\.|\bsrc=|@import|url\(|fetch\(|XMLHttp|WebSocket|sendBeacon"
-                       r"|EventSource|import\(|<link(?! rel=\"icon\" href=\"data:,\")", page)
-    check("the page asks for nothing", ", ".join(found))
-    policy = re.search(r'Content-Security-Policy"\s+content="([^"]*)"', page)
-    check("its policy forbids it", None if policy and "default-src 'none'" in policy[1] else "no")
-    size = len(page.encode()) - len(data_of(page)["packed"])
-    check("it has less than 150 KB beside its data", None if size < 150_000 else str(size))
-
-
-def hostile(found):
-    """Names can't become parts of the page."""
-    page = page_of("<b>&'\"", found)
-    data, script = data_of(page), page.partition("id=\"data\">")[2]
-    is_kept = data["threads"][0]["name"] == "<!--<script>" and data["title"] == "<b>&'\""
-    check("names like tags", None if is_kept and "<!--" not in page and "<b>" not in page.partition(
-        "<main")[0].replace("<b>&lt;b&gt;", "") and script else "they are parts of the page")
+def times_of(changes, first, ended):
+    """Returns for how long each value was there, by (time, value) in order, and the first value."""
+    found, begin, had = Counter(), 0, first
+    for time, value in [*changes, (ended, None)]:
+        found[had] += time - begin
+        begin, had = time, value
+    return +found
 
 
 def sleeps_wanted(text, ended):
@@ -347,17 +295,6 @@ def sleeps_wanted(text, ended):
     return +found
 
 
-def sleeps(found):
-    """By a plain reading threads were asleep for as long. Time passes by the lines read."""
-    wrong, many = [], 0
-    for seed, (text, one, _) in enumerate(found):
-        known = Sleeps(one.facts, one.rows.ended)
-        got = Counter({thread: known.between(thread, 0, one.rows.ended) for thread in known.of})
-        many += len(got)
-        wrong += [] if got == sleeps_wanted(text, one.rows.ended) else [str(seed)]
-    check("who slept, and for how long", ", ".join(wrong[:5]) or (None if many > 15 else str(many)))
-
-
 def table_wanted(text, listed):
     """Returns by mutex locks, those that waited, how long it was owned, and its waits."""
     locks, owned, world = Counter(), Counter(), World()
@@ -374,65 +311,53 @@ def table_wanted(text, listed):
             for mutex in world.mutexes if locks[mutex] or waits[mutex]}
 
 
-def mutex_tables(found):
-    """The table of all mutexes is what a plain count gives, in the text as in the JSON."""
-    wrong = []
-    for seed, (text, one, out) in enumerate(found):
-        wanted = table_wanted(text, Rows.read(out))
-        table = json.loads(json_of(one, True))["mutex_table"]
-        for use in table:
-            locks, granted, owned, waits = wanted.pop(use["mutex"], (0, 0, 0, []))
-            last = max([at for at in range(len(waits)) if 100 * at < 99 * len(waits)], default=0)
-            same = (use["locks"], use["contended"], use["waits"], use["total"]) == (
-                locks, granted, len(waits), sum(waits))
-            same = same and use["p99"] == (waits or [0])[last]
-            sums = [sum(it[key] for it in use["callers"]) for key in ("waits", "total")]
-            same = same and sums == [use["waits"], use["total"]]
-            near = abs(use["mean"] * max(1, locks) - owned) < max(1, locks)
-            wrong += [] if same and near else [f"{seed}: {use['mutex']}"]
-        said = Terminal(one, has_table=True).text().partition("\nALL MUTEXES")[2]
-        lines = re.findall(r"(?m)^ *([\d,]+) +([\d.]+) % +\S+ \S+ +\S+ \S+", said)
-        same = [(f"{use['locks']:,}", f"{100 * use['contended'] / max(1, use['locks']):.1f}")
-                for use in table] == lines
-        is_sorted = table == sorted(table, key=lambda use: -use["total"])
-        wrong += [] if same and is_sorted and not wanted else [f"{seed}: text"]
-    check("the table of all mutexes", ", ".join(wrong[:5]))
+def ring(count):
+    """Returns facts of threads of which each owns a mutex, and waits for that of the next one."""
+    facts = ["facts 1", *(f"thread {t} {t % 90} t{t}" for t in range(1, count + 1)),
+             *(f"mutex {m} none m{m}" for m in range(1, count + 1)),
+             *(f"0 {t} granted {t}" for t in range(1, count + 1))]
+    first, rows = len(facts) + 1, []
+    for t in range(1, count + 1):
+        following = t % count + 1
+        facts.append(f"1 {t} waits {following}")
+        rows.append(f"wait {first + t - 1} 0 {t} {following} 1 {count - 1} {t % 90} {t % 90}"
+                    f" {following} {following % 90} {first - count + following - 1} 0 0 0")
+    facts.append(f"{count} end")
+    rows += [f"section {t} {t} {t % 90} 1 {count} {first - count + t - 1} {count}"
+             for t in range(1, count + 1)]
+    rows += [f"nests {t} {t} {t % count + 1} 1 {first - count + t - 1} {first + t - 1}"
+             for t in range(1, count + 1)]
+    rows.append(f"deadlock {' '.join(map(str, range(1, count + 1)))}")
+    rows.append(f"end {len(facts)} {count} {count} 0 1")
+    return "\n".join(facts).encode(), "\n".join(rows)
 
 
-def times_of(changes, first, ended):
-    """Returns for how long each value was there, by (time, value) in order, and the first value."""
-    found, begin, had = Counter(), 0, first
-    for time, value in [*changes, (ended, None)]:
-        found[had] += time - begin
-        begin, had = time, value
-    return +found
+def in_vain(count):
+    """Returns facts of threads that wait for one mutex in vain, with names that differ."""
+    facts = ["facts 1", *(f"thread {t} {t % 90} t{t}" for t in range(1, count + 1)),
+             "mutex 1 none m", "0 1 granted 1"]
+    first, rows = len(facts) + 1, []
+    for t in range(2, count + 1):
+        inverted = (2 * count - t) * (t % 90 > 1)
+        facts.append(f"{t} {t} waits 1 pool.c:{t % 700}")
+        rows.append(f"wait {first + t - 2} 0 {t} 1 {t} {2 * count - t} {t % 90} {t % 90} 1 1"
+                    f" {first - 1} {inverted} {inverted} 0")
+        rows += [f"inverted {first + t - 2} 1 1 1 {inverted}"] * (inverted > 0)
+    facts.append(f"{2 * count} end")
+    rows += [f"section 1 1 1 1 {2 * count} {first - 1} {2 * count}"]
+    rows.append(f"end {len(facts)} {2 * count} {count - 1} {count - 1 - count // 45} 0")
+    return "\n".join(facts).encode(), "\n".join(rows)
 
 
-def stretches(found):
-    """By the plain definitions threads got as much, and were on a CPU as long, as the lanes say."""
-    wrong = []
-    for seed, (text, one, _) in enumerate(found):
-        gets, on = defaultdict(Counter), Counter()
-        world = World()
-        for line in map(line_of, lines_of(text)[1:]):
-            stretch = world.time_passes(line)
-            for thread in world.level:
-                gets[thread][world.gets(thread), world.level[thread]] += stretch
-                on[thread] += stretch * world.is_on(thread)
-            world.apply(line)
-        shown = Stretches(one.facts)
-        for thread, declared in one.facts.threads.items():
-            column = shown.levels.get(thread, [])
-            changes = [(column[at], tuple(column[at + 1:at + 3]))
-                       for at in range(0, len(column), 3)]
-            got = times_of(changes, (declared.level,) * 2, world.clock)
-            stays = shown.stays.get(thread, [])
-            time = sum(stays[1::2]) - sum(stays[::2])
-            lacks = world.clock - sum(gets[thread].values())
-            gets[thread][(declared.level,) * 2] += lacks  # before it was declared
-            wrong += [] if got == +gets[thread] else [f"{seed}: what {thread} gets"]
-            wrong += [] if time == on[thread] else [f"{seed}: when {thread} is on a CPU"]
-    check("what threads get, and when they have a CPU", ", ".join(wrong[:5]))
+def is_counted(use, wanted):
+    """Returns whether a row of the table of mutexes is what a plain count gives."""
+    locks, granted, owned, waits = wanted
+    last = max([at for at in range(len(waits)) if 100 * at < 99 * len(waits)], default=0)
+    sums = [sum(it[key] for it in use["callers"]) for key in ("waits", "total")]
+    return (use["locks"], use["contended"], use["waits"], use["total"], use["p99"]) == (
+        locks, granted, len(waits), sum(waits), (waits or [0])[last]) and (
+        sums == [use["waits"], use["total"]]
+        and abs(use["mean"] * max(1, locks) - owned) < max(1, locks))
 
 
 def plain_bound(value, thread):
@@ -457,19 +382,6 @@ def plain_bound(value, thread):
             "waited": waited}
 
 
-def bounds(found):
-    """The bounds are those of the definitions, for real-time threads that can be blocked."""
-    wrong = []
-    for at, one in enumerate(found):
-        value = json.loads(json_of(one))
-        wanted = [plain_bound(value, thread) for thread in value["threads"]
-                  if 1 <= thread["highest"] <= 99]
-        wanted = [bound for bound in wanted if bound["inherit"]]
-        if sorted(value["bounds"], key=str) != sorted(wanted, key=str):
-            wrong.append(str(at))
-    check("the bounds are those of docs/FINDINGS.md", ", ".join(wrong[:5]))
-
-
 def is_in(windows, begin, end):
     return any(begin <= until and end >= since for since, until in windows)
 
@@ -482,32 +394,6 @@ def shares_wanted(items, data):
                    for begin, end in items)
         found[at] = min(63, -(-63 * time // wide))
     return found
-
-
-def windows(found):
-    """A page that can't keep all has all waits, what is near the worst of them, and shares."""
-    wrong, most = [], pack.MOST_ITEMS
-    pack.MOST_ITEMS = 1
-    for seed, (_, one, _) in enumerate(found):
-        if not one.all or one.recording.all_rows.ended < 9:
-            continue
-        data, value = data_of(page_of("title", one)), json.loads(json_of(one))
-        packed, every = Packed(data), Stretches(one.facts)
-        if data["windows"] is None:
-            continue
-        threads = {one["called"]: one["number"] for one in value["threads"]}
-        same = sorted(waits_of(packed, data, value)) == sorted(waits_wanted(value))
-        for at, lane in enumerate(data["threads"]):
-            column = every.owns.get(threads[lane["name"]], [])
-            owns = [tuple(column[at:at + 2]) for at in range(0, len(column), 4)]
-            kept = {(begin, begin + lasted) for begin, lasted, _ in packed.owns[at]}
-            inside = {own for own in owns if is_in(data["windows"], *own)}
-            within = {own for own in owns if is_in(data["windows"], own[0] + 1, own[1] - 1)}
-            same &= within <= kept <= inside
-            same &= shares_wanted(owns, data) == packed.shares[at][0]
-        wrong += [] if same else [str(seed)]
-    pack.MOST_ITEMS = most
-    check("a page of windows", ", ".join(wrong))
 
 
 def ways_in(text):
@@ -526,101 +412,217 @@ def ways_in(text):
     return found
 
 
-def ways(found):
-    """The way from a wait to each of its runners was there, as the plain definitions say."""
-    wrong, chains = [], 0
-    for seed, (text, one, _) in enumerate(found):
-        there = ways_in(text)
-        for wait in one.rows.waits:
-            for runner in {part.runner for part in (*wait.parts, *wait.stalls)}:
-                way = tuple(one.recording.way(wait, runner))
-                chains += len(way) > 1
-                is_there = way in there[wait.line] and way[-1:] and way[-1][1] == runner
-                wrong += [] if is_there else [f"{seed}: line {wait.line}"]
-    check("ways to runners", ", ".join(wrong[:5]) or (None if chains > 9 else "no chains"))
+def windowed():
+    """Returns random findings, and those of a long text."""
+    facts, listed = large(200)
+    return [*random_findings()[:30], (facts, Findings(Recording(Facts(facts), Rows.read(listed))), listed)]
 
 
-def far_ways():
-    """Of the waits of a thread only those are looked at that are there between two lines."""
-    facts = Facts(b"facts 1\nthread 1 5 low\nmutex 1 none m\n" + b"0 1 took 1\n")
-    listed, lines = Rows(), 80_000
-    listed.waits = [Wait((line, line + 3, 1, 1, line, 1 + line * 7 % 31, 5, 5, 0, 0, 0, 0, 0, 0))
-                    for line in range(10, lines, 4)] + [Wait((lines, 0, 1, 1, 0, 9, *[0] * 7, 0))]
-    found, wrong = Recording(facts, listed), []
-    for line, until in ((9, 11), (10, 12), (12, 15), (13, 14), (100, 900), (1, lines + 1)):
-        there = [wait.lasted for wait in listed.waits
-                 if wait.line < until and (not wait.until or wait.until > line)]
-        got = [wait.lasted for wait in found.waits_between(1, line, until)]
-        wrong += [] if got == sorted(there, reverse=True)[:20] else [f"{line} to {until}: {got}"]
-    check("the longest waits between two lines", ", ".join(wrong))
-    begin = time.process_time()
-    for line in range(5_000):
-        found.waits_between(1, line, line + 9)
-    took = time.process_time() - begin  # 0.02 s, or 5 s if each wait is looked at
-    check("5,000 looks for some of 20,000 waits", None if took < 1 else f"{took:.2f} s of 1")
+class Forms(Case):
+    def test_each_key_of_the_JSON_is_on_the_page(self):
+        """Each key of the JSON is on the page, and each key of a table there is in some JSON."""
+        used = {key for one in all_findings() for key in keys_in(json.loads(json_of(one, True)))}
+        listed, named = documented()
+        self.check("each key is on the page", ", ".join(sorted(used - named)))
+        self.check("each key of the page is there", ", ".join(sorted(listed - used)))
 
+    def test_rows_can_be_read_again_from_the_JSON(self):
+        """The rows can be read again from the JSON, with the places of their lines."""
+        wrong = []
+        for seed, (_, one, out) in enumerate(random_findings()):
+            again = [" ".join(map(str, row)) for row in rows_again(json.loads(json_of(one)))]
+            is_placed = all(row.get(key, places) == places for row, key, places in placed(one))
+            if sorted(again) != sorted(out.splitlines()) or not is_placed:
+                wrong.append(str(seed))
+        self.check("the JSON has all rows", ", ".join(wrong[:5]))
 
-def ring(count):
-    """Returns facts of threads of which each owns a mutex, and waits for that of the next one."""
-    facts = ["facts 1", *(f"thread {t} {t % 90} t{t}" for t in range(1, count + 1)),
-             *(f"mutex {m} none m{m}" for m in range(1, count + 1)),
-             *(f"0 {t} granted {t}" for t in range(1, count + 1))]
-    first, rows = len(facts) + 1, []
-    for t in range(1, count + 1):
-        following = t % count + 1
-        facts.append(f"1 {t} waits {following}")
-        rows.append(f"wait {first + t - 1} 0 {t} {following} 1 {count - 1} {t % 90} {t % 90}"
-                    f" {following} {following % 90} {first - count + following - 1} 0 0 0")
-    facts.append(f"{count} end")
-    rows += [f"section {t} {t} {t % 90} 1 {count} {first - count + t - 1} {count}"
-             for t in range(1, count + 1)]
-    rows += [f"nests {t} {t} {t % count + 1} 1 {first - count + t - 1} {first + t - 1}"
-             for t in range(1, count + 1)]
-    rows.append(f"deadlock {' '.join(map(str, range(1, count + 1)))}")
-    rows.append(f"end {len(facts)} {count} {count} 0 1")
-    return "\n".join(facts).encode(), "\n".join(rows)
+    def test_text_and_JSON_have_the_same_findings(self):
+        """The text and the JSON have the same findings, with the same numbers and sentences."""
+        import terminal
+        wrong = []
+        for seed, one in enumerate(all_findings()):
+            text, value = Terminal(one, most=10**9).text(), json.loads(json_of(one))
+            wanted = [(it["kind"], f"{it['times']:,}", duration(it["worst"]), duration(it["total"]))
+                      for it in value["findings"] if it["kind"] not in ("deadlock", "orders")]
+            said = " ".join(text.split())
+            lacks = [line for line in value["verdict"] + value["unseen"]
+                     if " ".join(line.split()) not in said]
+            if figures(text, terminal.TITLES) != wanted or lacks:
+                wrong.append(f"{seed} {lacks}")
+        self.check("the text and the JSON say the same", ", ".join(wrong[:5]))
 
+    def test_the_page_has_the_numbers_of_the_JSON(self):
+        """The page has the numbers of the JSON; its stretches add up to the sums of the rows."""
+        wrong = []
+        for at, one in enumerate(all_findings()):
+            why = page_difference(one)
+            wrong += [f"{at}: {why}"] if why else []
+        self.check("the page and the JSON say the same", ", ".join(wrong[:5]))
 
-def crowd(count):
-    """Returns facts of threads that wait for one mutex in vain, with names that differ."""
-    facts = ["facts 1", *(f"thread {t} {t % 90} t{t}" for t in range(1, count + 1)),
-             "mutex 1 none m", "0 1 granted 1"]
-    first, rows = len(facts) + 1, []
-    for t in range(2, count + 1):
-        inverted = (2 * count - t) * (t % 90 > 1)
-        facts.append(f"{t} {t} waits 1 pool.c:{t % 700}")
-        rows.append(f"wait {first + t - 2} 0 {t} 1 {t} {2 * count - t} {t % 90} {t % 90} 1 1"
-                    f" {first - 1} {inverted} {inverted} 0")
-        rows += [f"inverted {first + t - 2} 1 1 1 {inverted}"] * (inverted > 0)
-    facts.append(f"{2 * count} end")
-    rows += [f"section 1 1 1 1 {2 * count} {first - 1} {2 * count}"]
-    rows.append(f"end {len(facts)} {2 * count} {count - 1} {count - 1 - count // 45} 0")
-    return "\n".join(facts).encode(), "\n".join(rows)
+    def test_a_page_asks_for_nothing(self):
+        """A page asks for nothing, and is small."""
+        found = re.findall(r"https?:|//\w+\.|\bsrc=|@import|url\(|fetch\(|XMLHttp|WebSocket|sendBeacon"
+                       r"|EventSource|import\(|<link(?! rel=\"icon\" href=\"data:,\")", page_of("chain", found_in((SUITE / "chain.facts").read_bytes())[0]))
+        self.check("the page asks for nothing", ", ".join(found))
+        policy = re.search(r'Content-Security-Policy"\s+content="([^"]*)"', page_of("chain", found_in((SUITE / "chain.facts").read_bytes())[0]))
+        self.check("its policy forbids it", None if policy and "default-src 'none'" in policy[1] else "no")
+        size = len(page_of("chain", found_in((SUITE / "chain.facts").read_bytes())[0]).encode()) - len(data_of(page_of("chain", found_in((SUITE / "chain.facts").read_bytes())[0]))["packed"])
+        self.check("it has less than 150 KB beside its data", None if size < 150_000 else str(size))
 
+    def test_names_cannot_become_parts_of_the_page(self):
+        """Names can't become parts of the page."""
+        page = page_of("<b>&'\"", found_in(HOSTILE)[0])
+        data, script = data_of(page), page.partition("id=\"data\">")[2]
+        is_kept = data["threads"][0]["name"] == "<!--<script>" and data["title"] == "<b>&'\""
+        self.check("names like tags", None if is_kept and "<!--" not in page and "<b>" not in page.partition(
+            "<main")[0].replace("<b>&lt;b&gt;", "") and script else "they are parts of the page")
 
-def many_threads():
-    """What 1,000 threads do at one lock, or in one deadlock, is said in a screen or two."""
-    for name, (facts, rows) in (("a deadlock", ring(1000)), ("one lock", crowd(1000))):
+    def test_stretches_are_those_of_the_plain_definitions(self):
+        """By the plain definitions threads got as much, and were on a CPU as long, as the lanes say."""
+        wrong = []
+        for seed, (text, one, _) in enumerate(random_findings()):
+            gets, on = defaultdict(Counter), Counter()
+            world = World()
+            for line in map(line_of, lines_of(text)[1:]):
+                stretch = world.time_passes(line)
+                for thread in world.level:
+                    gets[thread][world.gets(thread), world.level[thread]] += stretch
+                    on[thread] += stretch * world.is_on(thread)
+                world.apply(line)
+            shown = Stretches(one.facts)
+            for thread, declared in one.facts.threads.items():
+                column = shown.levels.get(thread, [])
+                changes = [(column[at], tuple(column[at + 1:at + 3]))
+                           for at in range(0, len(column), 3)]
+                got = times_of(changes, (declared.level,) * 2, world.clock)
+                stays = shown.stays.get(thread, [])
+                time = sum(stays[1::2]) - sum(stays[::2])
+                lacks = world.clock - sum(gets[thread].values())
+                gets[thread][(declared.level,) * 2] += lacks  # before it was declared
+                wrong += [] if got == +gets[thread] else [f"{seed}: what {thread} gets"]
+                wrong += [] if time == on[thread] else [f"{seed}: when {thread} is on a CPU"]
+        self.check("what threads get, and when they have a CPU", ", ".join(wrong[:5]))
+
+    def test_who_slept(self):
+        """By a plain reading threads were asleep for as long. Time passes by the lines read."""
+        wrong, many = [], 0
+        for seed, (text, one, _) in enumerate(random_findings()):
+            known = Sleeps(one.facts, one.rows.ended)
+            got = Counter({thread: known.between(thread, 0, one.rows.ended) for thread in known.of})
+            many += len(got)
+            wrong += [] if got == sleeps_wanted(text, one.rows.ended) else [str(seed)]
+        self.check("who slept", ", ".join(wrong[:5]) or (None if many > 15 else f"{many} slept"))
+
+    def test_the_table_of_all_mutexes(self):
+        """The table is what a plain count gives, in the text as in the JSON."""
+        wrong, facts = [], large(200)[0]
+        for seed, (text, one, out) in enumerate([*random_findings(), (facts, *found_in(facts))]):
+            wanted = table_wanted(text, Rows.read(out))
+            table = json.loads(json_of(one, True))["mutex_table"]
+            same = all(is_counted(use, wanted.pop(use["mutex"], (0, 0, 0, []))) for use in table)
+            is_sorted = table == sorted(table, key=lambda use: -use["total"])
+            said = Terminal(one, has_table=True).text().partition("\nALL MUTEXES")[2]
+            lines = re.findall(r"(?m)^ *([\d,]+) +([\d.]+) % +\S+ \S+ +\S+ \S+", said)
+            shown = [(f"{use['locks']:,}", f"{100 * use['contended'] / max(1, use['locks']):.1f}")
+                     for use in table]
+            wrong += [] if same and is_sorted and shown == lines and not wanted else [str(seed)]
+        self.check("the table of all mutexes", ", ".join(wrong[:5]))
+
+    def test_many_threads(self):
+        """What 1,000 threads do at one lock, or in one deadlock, is said in a screen or two."""
+        for name, (facts, rows) in (("a deadlock", ring(1000)), ("one lock", in_vain(1000))):
+            begin = time.process_time()
+            text = Terminal(Findings(Recording(Facts(facts), Rows.read(rows)))).text()
+            took, lines = time.process_time() - begin, text.count("\n")
+            is_short = lines < 100 and took < 3  # 0.1 s
+            self.check(f"1,000 threads at {name}", None if is_short else f"{lines} lines, {took:.2f} s")
+
+    def test_bounds_are_those_of_the_definitions(self):
+        """The bounds are those of the definitions, for real-time threads that can be blocked."""
+        wrong = []
+        for at, one in enumerate([*all_findings(), found_in(RAISED)[0]]):
+            value = json.loads(json_of(one))
+            wanted = [plain_bound(value, thread) for thread in value["threads"]
+                      if 1 <= thread["highest"] <= 99]
+            wanted = [bound for bound in wanted if bound["inherit"]]
+            if sorted(value["bounds"], key=str) != sorted(wanted, key=str):
+                wrong.append(str(at))
+        self.check("the bounds are those of docs/FINDINGS.md", ", ".join(wrong[:5]))
+
+    def test_a_page_that_cannot_keep_all(self):
+        """A page that can't keep all has all waits, what is near the worst of them, and shares."""
+        wrong, most = [], pack.MOST_ITEMS
+        pack.MOST_ITEMS = 1
+        for seed, (_, one, _) in enumerate(windowed()):
+            if not one.all or one.recording.all_rows.ended < 9:
+                continue
+            data, value = data_of(page_of("title", one)), json.loads(json_of(one))
+            packed, every = Packed(data), Stretches(one.facts)
+            if data["windows"] is None:
+                continue
+            threads = {one["called"]: one["number"] for one in value["threads"]}
+            same = sorted(waits_of(packed, data, value)) == sorted(waits_wanted(value))
+            for at, lane in enumerate(data["threads"]):
+                column = every.owns.get(threads[lane["name"]], [])
+                owns = [tuple(column[at:at + 2]) for at in range(0, len(column), 4)]
+                kept = {(begin, begin + lasted) for begin, lasted, _ in packed.owns[at]}
+                inside = {own for own in owns if is_in(data["windows"], *own)}
+                within = {own for own in owns if is_in(data["windows"], own[0] + 1, own[1] - 1)}
+                same &= within <= kept <= inside
+                same &= shares_wanted(owns, data) == packed.shares[at][0]
+            wrong += [] if same else [str(seed)]
+        pack.MOST_ITEMS = most
+        self.check("a page of windows", ", ".join(wrong))
+
+    def test_ways_to_runners(self):
+        """The way from a wait to each of its runners was there, as the plain definitions say."""
+        wrong, chains = [], 0
+        for seed, (text, one, _) in enumerate(random_findings()):
+            there = ways_in(text)
+            for wait in one.rows.waits:
+                for runner in {part.runner for part in (*wait.parts, *wait.stalls)}:
+                    way = tuple(one.recording.way(wait, runner))
+                    chains += len(way) > 1
+                    is_there = way in there[wait.line] and way[-1:] and way[-1][1] == runner
+                    wrong += [] if is_there else [f"{seed}: line {wait.line}"]
+        self.check("ways to runners", ", ".join(wrong[:5]) or (None if chains > 9 else "no chains"))
+
+    def test_only_waits_between_two_lines_are_looked_at(self):
+        """Of the waits of a thread only those are looked at that are there between two lines."""
+        facts = Facts(b"facts 1\nthread 1 5 low\nmutex 1 none m\n" + b"0 1 took 1\n")
+        listed, lines = Rows(), 80_000
+        listed.waits = [Wait((line, line + 3, 1, 1, line, 1 + line * 7 % 31, 5, 5, 0, 0, 0, 0, 0, 0))
+                        for line in range(10, lines, 4)] + [Wait((lines, 0, 1, 1, 0, 9, *[0] * 7, 0))]
+        found, wrong = Recording(facts, listed), []
+        for line, until in ((9, 11), (10, 12), (12, 15), (13, 14), (100, 900), (1, lines + 1)):
+            there = [wait.lasted for wait in listed.waits
+                     if wait.line < until and (not wait.until or wait.until > line)]
+            got = [wait.lasted for wait in found.waits_between(1, line, until)]
+            wrong += [] if got == sorted(there, reverse=True)[:20] else [f"{line} to {until}: {got}"]
+        self.check("the longest waits between two lines", ", ".join(wrong))
         begin = time.process_time()
-        text = Terminal(Findings(Recording(Facts(facts), Rows.read(rows)))).text()
-        took, lines = time.process_time() - begin, text.count("\n")
-        is_short = lines < 100 and took < 3  # 0.1 s
-        check(f"1,000 threads at {name}", None if is_short else f"{lines} lines, {took:.2f} s")
+        for line in range(5_000):
+            found.waits_between(1, line, line + 9)
+        took = time.process_time() - begin  # 0.02 s, or 5 s if each wait is looked at
+        self.check("5,000 looks for some of 20,000 waits", None if took < 1 else f"{took:.2f} s of 1")
 
+    def test_bounds_of_many_threads(self):
+        """The bounds of threads that used mutexes at two levels don't look at all sections each."""
+        facts, rows = ["facts 1"], []
+        facts += [f"thread {t} 1 t{t}" for t in range(1, 301)]
+        facts += [f"mutex {m} inherit m{m}" for m in range(1, 601)]
+        facts += [f"0 {t} priority {2 + t % 90}" for t in range(1, 301)]
+        for at in range(24_000):
+            thread, mutex = 1 + at % 300, 1 + (at + at // 300 * 7) % 600
+            level = 1 if at % 5 else 2 + thread % 90
+            rows.append(f"section {thread} {mutex} {level} 1 {at % 97} 2 {at % 97}")
+        rows.append(f"end {len(facts)} 0 0 0 0")
+        one = Recording(Facts("\n".join(facts).encode()), Rows.read("\n".join(rows)))
+        begin = time.process_time()
+        Bounds(one.facts, one.rows).all()
+        took = time.process_time() - begin  # 0.6 s, or 7 s if each thread looks at each section
+        self.check("the bounds of 300 threads and 600 mutexes", None if took < 3 else f"{took:.2f} s of 3")
 
-def many_bounds():
-    """The bounds of threads that used mutexes at two levels don't look at all sections each."""
-    facts, rows = ["facts 1"], []
-    facts += [f"thread {t} 1 t{t}" for t in range(1, 301)]
-    facts += [f"mutex {m} inherit m{m}" for m in range(1, 601)]
-    facts += [f"0 {t} priority {2 + t % 90}" for t in range(1, 301)]
-    for at in range(24_000):
-        thread, mutex = 1 + at % 300, 1 + (at + at // 300 * 7) % 600
-        level = 1 if at % 5 else 2 + thread % 90
-        rows.append(f"section {thread} {mutex} {level} 1 {at % 97} 2 {at % 97}")
-    rows.append(f"end {len(facts)} 0 0 0 0")
-    one = Recording(Facts("\n".join(facts).encode()), Rows.read("\n".join(rows)))
-    begin = time.process_time()
-    Bounds(one.facts, one.rows).all()
-    took = time.process_time() - begin  # 0.6 s, or 7 s if each thread looks at each section
-    check("the bounds of 300 threads and 600 mutexes", None if took < 3 else f"{took:.2f} s of 3")
+    def test_the_JSON_of_the_command(self):
+        _, text, _ = said("--facts", SUITE / "chain.facts", "--json")
+        self.assertEqual(text, json_of(found_in((SUITE / "chain.facts").read_bytes())[0]))

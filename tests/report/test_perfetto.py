@@ -4,13 +4,15 @@ import re
 from collections import Counter, defaultdict
 from decimal import Decimal
 
-from tests.shared.checks import check, difference
+from tests.cases import Case
+from tests.report.texts import random_findings
+from tests.shared.checks import difference
 from facts_text import Facts
 from lines import line_of, lines_of
 from perfetto import Tracks
 from recording import Recording
-from rows_text import Rows
 import rows
+from rows_text import Rows
 from world import World
 
 THREADS = "thread 1 30 high;thread 2 10 low;thread 3 20 mid"
@@ -193,13 +195,6 @@ def file_of(text):
     return File("".join(Tracks(recording).lines()))
 
 
-def examples():
-    for name, facts, wanted in EXAMPLES:
-        file = file_of(("\n".join(["facts 1", *facts.split(";")]) + "\n").encode())
-        wanted = tuple(sorted(wanted.split(";")))
-        check(f"the tracks of {name}", file.fault() or difference(tuple(file.shown()), wanted))
-
-
 # ---- random facts, by the plain world
 
 def lasted(text):
@@ -255,16 +250,23 @@ def thread_of(name):
     return int(name[1:])
 
 
-def agree(texts):
-    """In random texts threads are for as long in each state as the plain definitions say."""
-    wrong = []
-    for seed, text in enumerate(texts):
-        file = file_of(text)
-        wanted, clock = lasted(text)
-        got = lasted_in(file, clock)
-        late = {key for key in {**got, **wanted} if got[key] != wanted[key]}
-        # A thread has its level before it is declared, too.
-        late = {key for key in late if key[0] != "priority" or got[key] < wanted[key]}
-        why = file.fault() or (f"{sorted(late, key=str)[0]}" if late else None)
-        wrong += [f"{seed}: {why}"] if why else []
-    check("tracks of random facts", "; ".join(wrong[:3]))
+class PerfettoTracks(Case):
+    def test_tracks_by_hand(self):
+        for name, facts, wanted in EXAMPLES:
+            file = file_of(("\n".join(["facts 1", *facts.split(";")]) + "\n").encode())
+            wanted = tuple(sorted(wanted.split(";")))
+            self.check(f"the tracks of {name}", file.fault() or difference(tuple(file.shown()), wanted))
+
+    def test_tracks_of_random_facts(self):
+        """In random texts threads are for as long in each state as the plain definitions say."""
+        wrong = []
+        for seed, text in enumerate([text for text, _, _ in random_findings()]):
+            file = file_of(text)
+            wanted, clock = lasted(text)
+            got = lasted_in(file, clock)
+            late = {key for key in {**got, **wanted} if got[key] != wanted[key]}
+            # A thread has its level before it is declared, too.
+            late = {key for key in late if key[0] != "priority" or got[key] < wanted[key]}
+            why = file.fault() or (f"{sorted(late, key=str)[0]}" if late else None)
+            wrong += [f"{seed}: {why}"] if why else []
+        self.check("tracks of random facts", "; ".join(wrong[:3]))

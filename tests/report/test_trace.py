@@ -1,16 +1,19 @@
 """The traces that pim-report makes: by hand, and of random facts, as pim judges them."""
+import pathlib
 import itertools
 import re
 
-import rows
-import trace_window
-from tests.shared.checks import ROOT, answer, check, difference
+from tests.cases import Case
+from tests.report.texts import said as run
+from tests.shared.checks import ROOT, answer, difference, own_program
 from facts_text import Facts
 from judged_trace import trace_of
 from lines import line_of
 from other_programs import Fault
 from random_facts import RandomText
+import rows
 from rows_text import Rows
+import trace_window
 from trace_window import priorities_of
 from words import nanoseconds_of
 from world import World
@@ -121,110 +124,12 @@ def judged(pim, trace):
     return report.decode().splitlines(), err.decode() or trace.fault(report)
 
 
-def examples(pim):
-    for name, facts, window, wanted in EXAMPLES:
-        trace = trace_of(*read(text_of(facts.split(";"))), *window)
-        got = tuple(trace.text().splitlines())
-        why = difference(got, ("pim 2", *filter(None, wanted.split(";"))))
-        check(f"the trace of {name}", why or judged(pim, trace)[1])
-    page = (ROOT / "docs/REPORT.md").read_text()
-    facts, wanted = (re.sub(r"(?m)^    ", "", one) for one in re.findall(
-        r"(?m)^(    (?:facts 1|pim 2)\n(?:    .*\n)+)", page))
-    got = trace_of(*read(facts.encode()), *ALWAYS).text()
-    check("the trace that its page shows", difference((got,), (wanted,)))
-
-
-def limits():
-    """A window that is too large isn't made, and a shorter one is named that is made."""
-    most = trace_window.MOST_TASKS, trace_window.MOST_MUTEXES, trace_window.MOST_STEPS
-    check("the limits of a trace", difference(most, (256, 256, 65536)))
-    pair = "{0} {1} granted 1", "{0} {1} released 1"
-    many = [one.format(10 * t, t) for t in range(1, 258) for one in pair]
-    mutexes = [f"mutex {m} none m{m}" for m in range(3, 300)]
-    locks = [f"{10 * m} 1 granted {m}" for m in range(1, 300)]
-    steps = [one.format(10 * at, at % 2 + 1) for at in range(32769) for one in pair]
-    for what, facts, last in (("256 threads", many, 2569), ("256 mutexes", mutexes + locks, 2569),
-                              ("65,536 steps", steps, 327679)):
-        parts = read(text_of(LIMITED + facts))
-        wanted = f"a trace has no room for more than {what}: a window up to {last}ns has"
-        got = fault_of(lambda: trace_of(*parts, *ALWAYS))
-        check(f"more than {what}", difference((got,), (wanted,)))
-        trace = trace_of(*parts, 0, last)
-        is_full = 256 in (len(trace.window.tasks), len(trace.window.mutexes)) or (
-            len(trace.steps) == 65536)
-        check(f"{what}", None if is_full else f"{len(trace.steps)} steps")
-    parts = read(text_of(LIMITED + [one.format(5, t) for t in range(1, 258) for one in pair]))
-    wanted = ("a trace has no room for more than 256 threads:"
-              " a window of a later time may have")
-    got = fault_of(lambda: trace_of(*parts, 5, 9))
-    check("257 threads at one time", difference((got,), (wanted,)))
-    parts = read(text_of(LIMITED + [one.format(10**18 + t, t) for t in range(1, 258)
-                                    for one in pair]))
-    named = fault_of(lambda: trace_of(*parts, *ALWAYS)).split(" ")[-2]
-    why = difference((nanoseconds_of(named),), (10**18 + 256,))
-    check("--to has the window that is named", why)
-
-
 def fault_of(made):
     try:
         made()
     except Fault as fault:
         return str(fault)
     return None
-
-
-def scales():
-    wrong = []
-    for levels, wanted in (({0, 10}, {0: 1, 10: 10}), ({1, 100}, {1: 1, 100: 99}),
-                           ({0, 1, 98}, {0: 1, 1: 2, 98: 99}), ({0, 1, 99}, {0: 1, 1: 2, 99: 3}),
-                           ({98, 99, 100}, {98: 1, 99: 2, 100: 3}), ({99}, {99: 99}), (set(), {})):
-        wrong += [] if priorities_of(levels) == wanted else [str(levels)]
-    check("priorities of levels", ", ".join(wrong))
-    most = priorities_of({*range(50), *range(52, 101)})
-    check("priorities of 99 levels", difference((*most.values(),), (*range(1, 100),)))
-    why = "a trace has no room for more than 99 levels"
-    got = fault_of(lambda: priorities_of({*range(50), *range(51, 101)}))
-    check("100 levels", difference((got,), (why,)))
-
-
-def commands(folder, pim, run):
-    """What the command writes. `run` runs pim-report with some arguments and a text."""
-    file, facts = folder / "run.pim", text_of(EXAMPLES[0][1].split(";"))
-
-    def said(*words, judge=pim, to=file):
-        file.unlink(missing_ok=True)
-        words = "--facts", "-", "--trace", to, "--judge", judge, *words
-        status, out, err = run(*words, text=facts)
-        return status, bool(out), " ".join(err.split()), file.read_text() if file.exists() else None
-
-    declared, steps = "pim 2\ntask 1 30\ntask 2 10\nmutex 1 inherit\n", (
-        "2 lock 1 = granted\n", "1 lock 1 = queued\n", "2 unlock 1 = handed 1\n",
-        "1 unlock 1 = freed\n")
-    called = "task 1 is high; task 2 is low; mutex 1 is m"
-    for words, count, lines in (((), 4, "6 to 10"), (("--to", "10ns"), 2, "6 to 7"),
-                                (("--from", "10ns", "--to", "20ns"), 3, "7 to 9")):
-        note = f"{file}: {count} steps, of lines {lines}; {called}"
-        wanted = 0, True, note, declared + "".join(steps[:count])
-        check(" ".join(("--trace", *words)), difference(said(*words), wanted))
-    none = "no trace is written"
-    changed = "sh -c '" + pim + " | sed \"{}\"'"
-    for judge, why in (
-            (changed.format("s/at 30/at 29/"), f"{none}: line 7, 10 1 waits 5: the level of thread"
-             " 2 is another one by pim, 30 by the facts"),
-            (changed.format("s/handed 1/freed/"), f"{none}: line 8, 20 2 released 5: pim answers"
-             " '3 freed' to step 3, 2 unlock 1 = handed 1"),
-            (changed.format("/at 10/d"), f"{none}: line 8, 20 2 released 5: the level of thread 2"
-             " is 30 by pim, 10 by the facts"),
-            (changed.format("2,\\$d"), f"{none}: line 7, 10 1 waits 5: pim answers '' to step 2,"
-             " 1 lock 1 = queued"),
-            (changed.format("\\$d"), f"{none}: the report of pim doesn't end with the last step"),
-            ("sh -c 'echo pim: no >&2; exit 2'", "no"),
-            ("sh -c 'exit 5'", "sh judged nothing, with status 5"),
-            ("/nowhere", "/nowhere: No such file or directory")):
-        check(f"--judge {judge[-16:]}",
-              difference(said(judge=judge), (2, True, f"pim-report: {why}", None)))
-    why = "pim-report: /no/where: No such file or directory"
-    check("a trace that can't be written", difference(said(to="/no/where"), (2, True, why, None)))
 
 
 # ---- random facts, by the plain world
@@ -336,20 +241,115 @@ class Agreement:
         return f"the level of {wrong[0]}" if wrong else None
 
 
-def agree(pim, count=100):
-    """Traces of random facts are accepted, and their reports are those of the facts."""
-    wrong, words = [], set()
-    for seed in range(count):
-        text = RandomText(seed).data()
-        facts, found = read(text)
-        third = found.ended // 3
-        for window in (ALWAYS, (third, 2 * third), (third, 10**19)):
-            trace = trace_of(facts, found, *window)
-            report, why = judged(pim, trace)
-            why = why or Agreement(text, trace).fault(report)
-            wrong += [f"{seed} from {window[0]}: {why}"] if why else []
-            words |= {re.sub(r" \d+", "", step.partition(" ")[2]) for step in trace.steps}
-    check("random facts and their traces agree", "; ".join(wrong[:3]))
-    wanted = {"lock = granted", "lock = queued", "lock = refused deadlock", "try = granted",
-              "unlock = freed", "unlock = handed", "cancel = withdrawn", "base = set", "ceil = set"}
-    check("each step and reply was made", ", ".join(wanted - words))
+class Traces(Case):
+    def test_traces_by_hand(self):
+        for name, facts, window, wanted in EXAMPLES:
+            trace = trace_of(*read(text_of(facts.split(";"))), *window)
+            got = tuple(trace.text().splitlines())
+            why = difference(got, ("pim 2", *filter(None, wanted.split(";"))))
+            self.check(f"the trace of {name}", why or judged(own_program(), trace)[1])
+        page = (ROOT / "docs/REPORT.md").read_text()
+        facts, wanted = (re.sub(r"(?m)^    ", "", one) for one in re.findall(
+            r"(?m)^(    (?:facts 1|pim 2)\n(?:    .*\n)+)", page))
+        got = trace_of(*read(facts.encode()), *ALWAYS).text()
+        self.equal("the trace that its page shows", (got,), (wanted,))
+
+    def test_limits(self):
+        """A window that is too large isn't made, and a shorter one is named that is made."""
+        most = trace_window.MOST_TASKS, trace_window.MOST_MUTEXES, trace_window.MOST_STEPS
+        self.equal("the limits of a trace", most, (256, 256, 65536))
+        pair = "{0} {1} granted 1", "{0} {1} released 1"
+        many = [one.format(10 * t, t) for t in range(1, 258) for one in pair]
+        mutexes = [f"mutex {m} none m{m}" for m in range(3, 300)]
+        locks = [f"{10 * m} 1 granted {m}" for m in range(1, 300)]
+        steps = [one.format(10 * at, at % 2 + 1) for at in range(32769) for one in pair]
+        for what, facts, last in (("256 threads", many, 2569), ("256 mutexes", mutexes + locks, 2569),
+                                  ("65,536 steps", steps, 327679)):
+            parts = read(text_of(LIMITED + facts))
+            wanted = f"a trace has no room for more than {what}: a window up to {last}ns has"
+            got = fault_of(lambda: trace_of(*parts, *ALWAYS))
+            self.equal(f"more than {what}", (got,), (wanted,))
+            trace = trace_of(*parts, 0, last)
+            is_full = 256 in (len(trace.window.tasks), len(trace.window.mutexes)) or (
+                len(trace.steps) == 65536)
+            self.check(f"{what}", None if is_full else f"{len(trace.steps)} steps")
+        parts = read(text_of(LIMITED + [one.format(5, t) for t in range(1, 258) for one in pair]))
+        wanted = ("a trace has no room for more than 256 threads:"
+              " a window of a later time may have")
+        got = fault_of(lambda: trace_of(*parts, 5, 9))
+        self.equal("257 threads at one time", (got,), (wanted,))
+        parts = read(text_of(LIMITED + [one.format(10**18 + t, t) for t in range(1, 258)
+                                        for one in pair]))
+        named = fault_of(lambda: trace_of(*parts, *ALWAYS)).split(" ")[-2]
+        why = difference((nanoseconds_of(named),), (10**18 + 256,))
+        self.check("--to has the window that is named", why)
+
+    def test_priorities_of_levels(self):
+        wrong = []
+        for levels, wanted in (({0, 10}, {0: 1, 10: 10}), ({1, 100}, {1: 1, 100: 99}),
+                               ({0, 1, 98}, {0: 1, 1: 2, 98: 99}), ({0, 1, 99}, {0: 1, 1: 2, 99: 3}),
+                               ({98, 99, 100}, {98: 1, 99: 2, 100: 3}), ({99}, {99: 99}), (set(), {})):
+            wrong += [] if priorities_of(levels) == wanted else [str(levels)]
+        self.check("priorities of levels", ", ".join(wrong))
+        most = priorities_of({*range(50), *range(52, 101)})
+        self.equal("priorities of 99 levels", (*most.values(),), (*range(1, 100),))
+        why = "a trace has no room for more than 99 levels"
+        got = fault_of(lambda: priorities_of({*range(50), *range(51, 101)}))
+        self.equal("100 levels", (got,), (why,))
+
+    def test_what_the_command_writes(self):
+        """What the command writes. `run` runs pim-report with some arguments and a text."""
+        file, facts = pathlib.Path(self.folder) / "run.pim", text_of(EXAMPLES[0][1].split(";"))
+
+        def said(*words, judge=own_program(), to=file):
+            file.unlink(missing_ok=True)
+            words = "--facts", "-", "--trace", to, "--judge", judge, *words
+            status, out, err = run(*words, text=facts)
+            return status, bool(out), " ".join(err.split()), file.read_text() if file.exists() else None
+
+        declared, steps = "pim 2\ntask 1 30\ntask 2 10\nmutex 1 inherit\n", (
+            "2 lock 1 = granted\n", "1 lock 1 = queued\n", "2 unlock 1 = handed 1\n",
+            "1 unlock 1 = freed\n")
+        called = "task 1 is high; task 2 is low; mutex 1 is m"
+        for words, count, lines in (((), 4, "6 to 10"), (("--to", "10ns"), 2, "6 to 7"),
+                                    (("--from", "10ns", "--to", "20ns"), 3, "7 to 9")):
+            note = f"{file}: {count} steps, of lines {lines}; {called}"
+            wanted = 0, True, note, declared + "".join(steps[:count])
+            self.check(" ".join(("--trace", *words)), difference(said(*words), wanted))
+        none = "no trace is written"
+        changed = "sh -c '" + own_program() + " | sed \"{}\"'"
+        for judge, why in (
+                (changed.format("s/at 30/at 29/"), f"{none}: line 7, 10 1 waits 5: the level of thread"
+             " 2 is another one by pim, 30 by the facts"),
+                (changed.format("s/handed 1/freed/"), f"{none}: line 8, 20 2 released 5: pim answers"
+             " '3 freed' to step 3, 2 unlock 1 = handed 1"),
+                (changed.format("/at 10/d"), f"{none}: line 8, 20 2 released 5: the level of thread 2"
+             " is 30 by pim, 10 by the facts"),
+                (changed.format("2,\\$d"), f"{none}: line 7, 10 1 waits 5: pim answers '' to step 2,"
+             " 1 lock 1 = queued"),
+                (changed.format("\\$d"), f"{none}: the report of pim doesn't end with the last step"),
+                ("sh -c 'echo pim: no >&2; exit 2'", "no"),
+                ("sh -c 'exit 5'", "sh judged nothing, with status 5"),
+                ("/nowhere", "/nowhere: No such file or directory")):
+            self.check(f"--judge {judge[-16:]}",
+                       difference(said(judge=judge), (2, True, f"pim-report: {why}", None)))
+        why = "pim-report: /no/where: No such file or directory"
+        self.check("a trace that can't be written", difference(said(to="/no/where"), (2, True, why, None)))
+
+    def test_traces_of_random_facts(self):
+        """Traces of random facts are accepted, and their reports are those of the facts."""
+        wrong, words = [], set()
+        for seed in range(100):
+            text = RandomText(seed).data()
+            facts, found = read(text)
+            third = found.ended // 3
+            for window in (ALWAYS, (third, 2 * third), (third, 10**19)):
+                trace = trace_of(facts, found, *window)
+                report, why = judged(own_program(), trace)
+                why = why or Agreement(text, trace).fault(report)
+                wrong += [f"{seed} from {window[0]}: {why}"] if why else []
+                words |= {re.sub(r" \d+", "", step.partition(" ")[2]) for step in trace.steps}
+        self.check("random facts and their traces agree", "; ".join(wrong[:3]))
+        wanted = {"lock = granted", "lock = queued", "lock = refused deadlock", "try = granted",
+                  "unlock = freed", "unlock = handed", "cancel = withdrawn", "base = set", "ceil = set"}
+        self.check("each step and reply was made", ", ".join(wanted - words))

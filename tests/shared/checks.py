@@ -1,4 +1,6 @@
 """What the scripts beside this file share: lines of checks, runs that end, the program, and calls that fail."""
+import fcntl
+import functools
 import os
 import pathlib
 import signal
@@ -147,11 +149,13 @@ def orphan_of(*command):
     return status, out.decode().splitlines()[-1:], err.decode()
 
 
+@functools.lru_cache(maxsize=None)
 def program():
-    """Returns the path of the program to test: the script's first argument, or the repository's own."""
-    return str(pathlib.Path(sys.argv[1]).resolve()) if len(sys.argv) > 1 else own_program()
+    """Returns the path of the program to test: that of `./test --program`, or the repository's own."""
+    return os.environ.get("PIM_PROGRAM") or own_program()
 
 
+@functools.lru_cache(maxsize=None)
 def own_program(name="pim", crate="pim", text=b"pim 1\n"):
     """Returns the path of a program of the repository, and builds it if it is older than the code.
 
@@ -173,6 +177,21 @@ def built(crate, file, *command):
         subprocess.run(command, cwd=folder, check=True, stdout=subprocess.DEVNULL)
         os.utime(made)
     return str(made)
+
+
+def soak():
+    """Returns the path of crates/pim_soak, which runs what the tests and measurements of the manager ask for."""
+    return built("pim_soak", "pim_soak", "rt", "run", "--", "0")
+
+
+def made(folder, *goals):
+    """Makes goals in a folder of the repository. Of several that do so at the same time one waits for the other."""
+    with open(ROOT / folder / "Makefile", encoding="utf-8") as lock:
+        fcntl.flock(lock, fcntl.LOCK_EX)
+        words = ["make", "-s", "-C", ROOT / folder, *goals]
+        done = subprocess.run(words, stdout=subprocess.PIPE, stderr=subprocess.STDOUT, text=True)
+    if done.returncode:
+        raise OSError(f"make -C {folder}: {done.stdout[-2000:]}")
 
 
 def compiled(source, folder, *flags):

@@ -1,27 +1,26 @@
-#!/usr/bin/env python3
-"""tests/web [PROGRAM] [--shots FOLDER] [--figures]: the page of web/, and the module that it contains.
+"""The page of web/, and the module that it contains.
 
 In Node the module's reports, faults and states are compared with those of the program, and with the
 report. In a headless Chromium the page is opened from the file system and used: typed into, stepped
-through, by the keyboard, at three sizes; its lanes are compared with the report. Node 20 and Chromium
-are needed; without them the checks are skipped. Prints a line for each check: 'ok NAME', 'FAIL NAME:
-why' or 'skip NAME: why'. With --figures it also checks what the page takes: for an idle machine.
+through, by the keyboard, at three sizes; its lanes are compared with the report. The environment variable
+SHOTS names a folder for pictures of it, and with FIGURES=1 it is measured what the page takes, on an idle machine.
 """
-import argparse
 import base64
 import hashlib
 import json
+import os
 import pathlib
 import random
 import re
 import shutil
 import subprocess
 import sys
-import tempfile
+import unittest
 import xml.etree.ElementTree as xml
 
-from tests.web import module
-from tests.shared.checks import ROOT, answer, check, difference, end, own_program, skip
+from tests.cases import Case, temporary_folder
+from tests.web import module as web_module
+from tests.shared.checks import ROOT, answer, difference, program
 from tests.web.module import NODE, WEB
 
 sys.path.insert(0, str(ROOT / "bench"))
@@ -99,39 +98,8 @@ def generated(pim):
     return texts + [text.encode() for text in full]
 
 
-def compare(pim, texts, folder):
-    """Compares what the module prints of each text with the program. Returns what differs first."""
-    status, lines, err = module.judged(texts, folder)
-    check("the module runs in Node", None if status == 0 else err[-300:])
-    check("each text is judged", difference((len(lines),), (len(texts) + 3,)))
-    found = {"reports and faults": None, "states": None, "bars": None}
-    for number, (text, line) in enumerate(zip(texts, lines)):
-        status, fault, reason, report, wrong = module.answer_of(line)
-        got = [status, fault + reason, report]
-        status, report, fault = answer([pim, "--explain"], text)
-        wanted = [status, fault.decode(), hashlib.sha256(report).hexdigest()]
-        found["reports and faults"] = found["reports and faults"] or name_of(number, difference(got, wanted))
-        for name, count in zip(("states", "bars"), wrong):
-            found[name] = found[name] or name_of(number, difference((count,), (0,)))
-    check(f"{len(texts)} texts, the module compared with the program", found["reports and faults"])
-    check("the priorities and reasons of the getters compared with the report", found["states"])
-    check("what is owned and waited for, over the steps, compared with the getters", found["bars"])
-    for name, why in lines[-3] if len(lines) == len(texts) + 3 else ():
-        check(name, why)
-    # A text that needs more memory than there is, between texts that don't.
-    check("out of memory", difference((lines[-2:-1],), ([[0, 3, 0, 3, 0]],)))
-    check("the blocks of the heap", difference((lines[-1:],), ([None],)))
-
-
 def name_of(number, why):
     return f"text {number}: {why}" if why else None
-
-
-def module(pim, folder):
-    if not shutil.which("node"):
-        return skip("the module compared with the program", "node is missing")
-    extended(folder)
-    compare(pim, generated(pim), folder)
 
 
 # ---- the page
@@ -358,7 +326,7 @@ def pictures():
     return made | {name: example(name) for name in ("inversion_suffered", "inversion_avoided")}
 
 
-def shown(folder, chromium, shots):
+def shown(folder, chromium):
     """Runs the browser, and returns what the page showed."""
     long = mixed(6, 190)
     texts = {name: text for name, (text, _) in TYPED.items()}
@@ -374,38 +342,11 @@ def shown(folder, chromium, shots):
     (folder / "input.json").write_text(json.dumps(given))
     (folder / "opened.pim").write_text(OPENED)
     address = (WEB / "dist/index.html").as_uri()
-    words = ["node", ROOT / "tests/web/page.mjs", chromium, address, folder, *([shots] if shots else [])]
+    words = ["node", ROOT / "tests/web/page.mjs", chromium, address, folder, *filter(None, [os.environ.get("SHOTS")])]
     status, out, err = answer([str(word) for word in words], seconds=3600)
-    check("the browser ends", None if status == 0 else f"{status} {err.decode()[-400:]}")
+    if status:
+        raise OSError(f"the browser ended with {status}: {err.decode()[-400:]}")
     return dict(json.loads(line) for line in out.decode().splitlines())
-
-
-def is_shown(found, name, *wanted):
-    check(name, difference((found.get(name),), wanted))
-
-
-def start_and_examples(found):
-    is_shown(found, "start: marked lines", ["mutex 1 none", "mutex 1 inherit"])
-    is_shown(found, "start: after step 2", [
-        "After step 2: Task 1 executes at its base, 10.",
-        "After step 2: Task 1 executes at 90 instead of 10: task 3 waits for mutex 1."])
-    is_shown(found, "start: lanes of task 1", ["10", "10", "90 ▲", "10"])
-    is_shown(found, "start: opened", ["accepted 5", example("inversion_avoided", "report")])
-    for name in EXAMPLES:
-        report, lanes, about = found.get(f"example {name}", ["", {"prios": [], "bars": [], "rows": []}, False])
-        check(f"the report of {name}", difference((report, about), (example(name, "report"), True)))
-        check(f"the lanes of {name}", wrong_lanes(lanes["prios"], example(name), report))
-        if name in BARS:
-            check(f"the bars of {name}", difference((sorted(lanes["bars"]),), (sorted(BARS[name]),)))
-            check(f"the rows of {name}", overlaps(lanes["bars"], lanes["rows"]))
-            check(f"no more rows than needed, {name}", rows_of(lanes["bars"], lanes["rows"]))
-        check(f"the replies of {name}", difference((found.get(f"replies of {name}"),), (replies_of(name),)))
-        steps = [line[:1].isdigit() for line in example(name, "report").splitlines()]
-        is_shown(found, f"steps of the report of {name}", [sum(steps[:n + 1]) for n in range(len(steps))])
-    graphs(found)
-    made = found.get("example recording_rejected", [0, {}, 0])[1].get("made")
-    check("the steps that tasks make", difference((made,), (MADE,)))
-    details(found)
 
 
 def replies_of(name):
@@ -415,42 +356,6 @@ def replies_of(name):
     said = [next(replies, "") if line[:1].isdigit() else "" for line in example(name).split("\n")]
     recorded = [line.partition(" = ")[2] for line in example(name).split("\n")]
     return ["✓" if reply and reply == old else reply for reply, old in zip(said, recorded)]
-
-
-def graphs(found):
-    is_shown(found, "graph at the start", ["at the start", []])
-    for name, (_, _, _, boxes, arrows, why) in GRAPHS.items():
-        got = found.get(f"graph {name}", {"boxes": [], "arrows": [], "wrong": None, "why": None})
-        shown, few = got["boxes"], isinstance(boxes, list) and len(boxes[0]) == 1
-        said = len(shown) if isinstance(boxes, int) else sorted(it[:1] if few else it for it in shown)
-        check(f"the boxes {name}", difference((said,), (boxes,)))
-        check(f"the arrows {name}", difference((sorted(got["arrows"]),), (sorted(arrows),)))
-        check(f"the graph {name}: why", difference((got["why"],), (why,)))
-        check(f"the places of the boxes {name}", difference((got["wrong"],), ([],)))
-
-
-def details(found):
-    got = found.get("details", {})
-    for name, wanted in DETAILS.items():
-        check(f"details: {name}", difference((got.get(name),), (wanted,)))
-    check("details: a lane's height", None if 30 <= round(got.get("tall", 0)) <= 60 else str(got.get("tall")))
-    is_shown(found, "details at the end", [*NAMES[:8], "base 15", *NAMES[9:]])
-    is_shown(found, "details, rejected", [[3, 1]])
-    is_shown(found, "two boosts", [[1, 1, 1, 20], [1, 3, 1, 20]])
-    # Above 95 there is no room.
-    is_shown(found, "numbers of 85 and 95", [-4, 13])
-    lines = [line.split(": ", 1) for line in (WEB / "page/examples.txt").read_text().splitlines()[1:]]
-    titles = {name: said.split(" | ") for name, said in lines}
-    options = [["", "Your trace"], ["start", "Start: two traces compared"], *([name, it[0]] for name, it in titles.items())]
-    is_shown(found, "examples", [options, titles["recording_rejected"][1]])
-    placed = found.get("rows", {"bars": [], "rows": []})
-    wanted = [["owns", 1, 1, 1, 3], ["owns", 1, 2, 2, 5], ["owns", 1, 3, 4, 8], ["owns", 1, 4, 6, 7]]
-    check("bars in two rows", difference((sorted(placed["bars"]),), (wanted,)) or overlaps(placed["bars"], placed["rows"])
-          or rows_of(placed["bars"], placed["rows"]))
-    failed = found.get("failures", [""] * 3)
-    check("a call of the worker that fails is said", None if "is not a function" in failed[0] else failed[0])
-    check("a worker that fails is said", None if "TypeError" in failed[1] else failed[1])
-    check("the page goes on behind it", difference((failed[2],), ("accepted 0",)))
 
 
 def rows_of(bars, rows):
@@ -469,67 +374,6 @@ def overlaps(bars, rows):
     placed = sorted([lane, row, begin, past] for (_, lane, _, begin, past), row in zip(bars, rows))
     pairs = zip(placed, placed[1:])
     return next((f"{a} and {b}" for a, b in pairs if a[:2] == b[:2] and b[2] < a[3]), None)
-
-
-def typed_and_stepped(found, pim):
-    is_shown(found, "typed line by line", ["accepted 5", example("inversion_avoided", "report")])
-    for name, (_, wanted) in TYPED.items():
-        is_shown(found, f"typed {name}", wanted)
-    for name, (steps, why) in REFUSED.items():
-        is_shown(found, f"refused {name}", [f"× Step {steps.count(chr(10))} is refused: {why}."])
-    for name, text in pictures().items():
-        report, prios = found.get(f"picture {name}", ["", []])
-        wanted = answer([pim], text.encode())[1].decode()
-        check(f"the report of {name}", difference((report,), (wanted,)))
-        check(f"the lanes of {name}", wrong_lanes(prios, text, wanted))
-    is_shown(found, "elements that are filled in", None)
-    check("elements are filled in", None if "elements that are filled in" in found else "none")
-    for name, wanted in LEFT_EDGE.items():
-        is_shown(found, f"the left edge, {name}", wanted)
-        is_shown(found, f"words under the left edge, {name}", [])
-        is_shown(found, f"words that are shown again, {name}", True)
-    is_shown(found, "stepping", STEPS)
-    is_shown(found, "why", WHY)
-    is_shown(found, "graph", GRAPH)
-    is_shown(found, "now in the trace", [15])
-    is_shown(found, "the buttons", STEPS[1])
-    # Of the two waiters for mutex 3, only task 4 boosts its owner.
-    is_shown(found, "arrows", ["url(#plain)"] + ["url(#waiter)"] * 6)
-    now = ["6 queued", *(f"  task {t} at 90 waiter {t + 1} mutex {t}" for t in (1, 2, 3))]
-    is_shown(found, "now in the report", now)
-    is_shown(found, "tip", "task 3 at 90: task 4 waits for mutex 3")
-    is_shown(found, "a click in the lanes", STEPS[1])
-    is_shown(found, "the caret", "Step 4: 2 lock 1 → queued")
-
-
-def narrow(found):
-    both = [[True, True]] * len(REPLIES)
-    is_shown(found, "replies at 390 pixels", [[[reply, True, reply != REPLIES[-1]] for reply in REPLIES], both])
-    is_shown(found, "the caret at 390 pixels", True)
-
-
-def files_and_address(found, folder):
-    is_shown(found, "a file opened", ["accepted 1", "1 granted\n  task 1 at 40 ceiling 1\naccepted 1\n"])
-    rejected = "1 refused no-mutex but recorded granted\nrejected 1\n"
-    is_shown(found, "a file dropped", ["rejected at step 1", rejected])
-    is_shown(found, "the caret behind a file", [True, True])
-    is_shown(found, "files with other line ends", ["rejected at step 1"] * 2)
-    hash_ = "#trace=pim%201%0Atask%201%2010%0A1%20lock%201%20%3D%20granted%0A"
-    is_shown(found, "the address", [hash_, "rejected at step 1", DROPPED])
-    check("the picture saved as SVG", wrong_svg(folder / "first.svg"))
-    picture, made = WEB / "inversion.svg", folder / "inversion.svg"
-    same = picture.exists() and made.exists() and picture.read_bytes() == made.read_bytes()
-    check("web/inversion.svg is what the page saves", None if same else "--shots FOLDER has what it saves now")
-    check("a long boost in a picture saved as SVG", wrong_boost(folder / "boost.svg"))
-    # Twice as large as two columns of 84 pixels and 4 more, names of 84 and a rim of 24, and a lane of 59 below 20.
-    is_shown(found, "the picture saved as PNG", [2 * (84 + 2 * 84 + 4 + 24), 2 * (20 + 59 + 24), 255, True])
-    check("unfolded lanes in a picture", difference((names_in(folder / "unfolded.svg"),), (list(range(1, 21)),)))
-    # 1,201 columns of 26 pixels. Each fifth has its number, and the chosen one, next to which there is no room.
-    check("a part of a long trace", wrong_part(folder / "middle.svg", list(range(39_400, 40_601, 5))))
-    check("the end of a long trace", wrong_part(folder / "end.svg", [*range(64_340, 65_535, 5), 65_536]))
-    png = folder / "middle.png"
-    wide = int.from_bytes(png.read_bytes()[16:20], "big") if png.exists() else 0
-    check("a part of a long trace as PNG", None if 16_000 <= wide <= 16_384 else f"{wide} pixels wide")
 
 
 def texts_of(file):
@@ -565,81 +409,11 @@ def wrong_boost(file):
     return difference((places,), ([2 * 26 + 4, *(876 * n + 4 for n in range(1, 9))],))
 
 
-def full_size(found, pim):
-    """What is shown of a trace of 65,536 steps, which is scrolled, edited, copied and pasted."""
-    is_shown(found, "full size", ["accepted 65536", FULL])
-    is_shown(found, "full size: the line of a step above", True)
-    is_shown(found, "full size: the end", ["Step 65536", 65_553, "accepted 65536"])
-    prios = found.get("full size: lanes", {"prios": []})["prios"]
-    report = answer([pim], mixed(8, 65_536).encode())[1].decode()
-    check("full size: the lanes at the end", wrong_end(prios, mixed(8, 65_536), report))
-    # Eight tasks and eight mutexes are declared, behind the version.
-    step, reply = mixed(8, 65_536).splitlines()[17 + 40_000 - 1], re.search(r"^40000 (.*)$", report, re.M)[1]
-    kind = "path" if reply.startswith("refused") else "circle"
-    is_shown(found, "full size: made", [[kind, int(step.split()[0]), f"step 40000: {step}, {reply}"]])
-    is_shown(found, "full size: numbers that overlap", 0)
-    is_shown(found, "full size, typed at the end", "line 65554 is invalid")
-    is_shown(found, "full size, typed at the beginning", ["line 1 is invalid", [1]])
-    is_shown(found, "full size, typed in the middle", ["line 40017 is invalid", [40_017]])
-    for lines in (1_000, 40_000):
-        is_shown(found, f"full size, Control {lines} lines above the caret", False)
-        is_shown(found, f"full size, a key {lines} lines above the caret", True)
-    is_shown(found, "full size, copied", True)
-    is_shown(found, "full size, pasted over all", ["line 65554 is invalid", [65_554]])
-    is_shown(found, "full size, typed over all", ["accepted 0", "pim 1"])
-    for steps in EDITED:
-        is_shown(found, f"edits of {steps} steps", None)
-        check(f"edits of {steps} steps are made", None if f"edits of {steps} steps" in found else "none")
-    is_shown(found, "undone", UNDONE)
-    is_shown(found, "undone, below the text area", UNDONE)
-    is_shown(found, "undone in a line", IN_LINE)
-    is_shown(found, "places of the editor", PLACES)
-    # 2,300 steps behind four tasks, four mutexes and the version, and an empty line; a line has 21 pixels.
-    is_shown(found, "over all", ["", "\n", "漢", f"{21 * (9 + EDITED[1] + 1) + 16}px"])
-    keys_of_lines(found)
-    # of the steps whose tasks are 400,000 at most
-    is_shown(found, "256 tasks: the chosen step", f"Step {most_boosted(pim, mixed(256, 400_000 // 256))}")
-    for name in ("the last text", "a file that is read after a later text"):
-        is_shown(found, name, ["accepted 7", example("ceilings", "report")])
-    is_shown(found, "folded", [["task 1", "task 3", "task 20"], "Show 17 tasks that no step names"])
-    is_shown(found, "lanes that aren't drawn", [])
-    is_shown(found, "unfolded", [["task 1", "task 2", "task 3"], "task 20", "Fold the tasks that no step names"])
-
-
-def times(found):
-    """The CPU time of the page's own thread."""
-    for name, most in MOST.items():
-        took = found.get(f"{name}: milliseconds", most)
-        check(f"{name} takes {took:.0f} ms", None if took < most else f"{most} at most")
-    for name in keyed():
-        got = found.get(f"keys, {name}", NO_KEYS)
-        held, making, took = (sorted(it) for it in (got["held"], got["making"], [it["took"] for it in got["made"]]))
-        usual, allowed = held[len(held) // 2], HELD * making[len(making) // 2]
-        said = f"a key holds the page {usual:.0f} ms, {held[-1]:.0f} at most, and is drawn after"
-        why = None if usual < allowed else f"{allowed:.0f} ms, what {HELD},000 elements take"
-        check(f"{said} {took[len(took) // 2]:.0f}, {name}", why)
-
-
 def most_boosted(pim, text):
     """Returns the first step after which most tasks are boosted."""
     steps = runs_of(text, answer([pim], text.encode())[1].decode())
     counts = [sum(mark != "" for _, mark in tasks) for tasks in steps]
     return counts.index(max(counts))
-
-
-def keys_of_lines(found):
-    """What a key in a text of 200 lines makes. All counts are of one frame."""
-    for name, given in keyed().items():
-        is_shown(found, f"words wrongly hidden, {name}", 0)
-        got = found.get(f"keys, {name}", NO_KEYS)
-        of_line = got["made"][3:7] if given["keys"] == LINE_KEYS else [{"all": 0}]
-        line = max(it["all"] for it in of_line)
-        counts = {kind: max(it[kind] for it in got["made"]) for kind in ("most", "painted")}
-        counts |= {kind: max(got[kind]) for kind in ("restyled", "laid", "layouts")}
-        for kind, most in MOST_OF_A_FRAME.items():
-            is_most = None if counts[kind] <= most else f"{most} at most"
-            check(f"of a frame, {FRAME[kind]}: {counts[kind]}, {name}", is_most)
-        check(f"a key that changes no step makes {line}, {name}", None if line <= MOST_OF_A_LINE else f"{MOST_OF_A_LINE} at most")
 
 
 def wrong_end(prios, text, report):
@@ -652,40 +426,6 @@ def wrong_end(prios, text, report):
                 return f"task {lane} after step {step}: {said!r} in place of {prio} {mark}"
     ends = sorted({lane for lane, _, past, _ in prios if past == len(steps)})
     return difference((ends,), (list(range(1, len(steps[0]) + 1)),))
-
-
-def reading(found):
-    focus = ["examples", "open", "more", "text", "report", "svg", "png", "time", "back", "on", "slider", "graph"]
-    is_shown(found, "the focus", focus)
-    is_shown(found, "about", True)
-    is_shown(found, "about is closed", False)
-    spoken = set(found.get("spoken", []))
-    wanted = {"region Report", "textbox The trace", "slider Step", "combobox Examples", "button About",
-              "button Step on"}
-    check("spoken", difference((wanted - spoken,), (set(),)))
-    is_shown(found, "spoken report", True)
-    for name, got in found.items():
-        if " pixels, " in name:
-            check(name, difference(tuple(got), (0, [])))
-    check("six looks at four texts", difference((sum(" pixels, " in name for name in found),), (24,)))
-    is_shown(found, "requests", [])
-    is_shown(found, "errors", [])
-    is_shown(found, "a request", "refused")
-
-
-def page(pim, folder, shots, has_figures):
-    chromium = shutil.which("chromium") or shutil.which("google-chrome")
-    if not shutil.which("node") or not chromium:
-        return skip("the page in a browser", "node or chromium is missing")
-    found = shown(folder, chromium, shots)
-    start_and_examples(found)
-    typed_and_stepped(found, pim)
-    narrow(found)
-    files_and_address(found, folder)
-    full_size(found, pim)
-    reading(found)
-    if has_figures:
-        times(found)
 
 
 # ---- what needs no browser
@@ -712,75 +452,6 @@ def data_begin(wasm):
     return 0
 
 
-def sources():
-    """The scripts have no word of a reply, so that they can't answer a step; and the page is small.
-
-    The keys of the table in refusals.js are looked up by what a report says of a refused step.
-    """
-    words = re.compile(r"granted|queued|freed|handed|withdrawn|released|kept|deadlock|not-owner|no-task")
-    texts = {path.name: path.read_text() for path in sorted((WEB / "page").glob("*.js"))}
-    texts["refusals.js"] = re.sub(r"^  '[a-z-]+': \(", "  (", texts["refusals.js"], flags=re.M)
-    check("no reply in the scripts", ", ".join(name for name, text in texts.items() if words.search(text)))
-    size = (WEB / "dist/index.html").stat().st_size
-    check(f"the page has less than {LIMIT:,} bytes", None if size < LIMIT else f"{size:,}")
-    begin = data_begin((WEB / "dist/pim.wasm").read_bytes())
-    check("the stack of the module is below its data", None if begin >= STACK else f"the data begins at {begin}")
-
-
-def bound(folder):
-    """A module of one processor isn't compiled."""
-    kit = pathlib.Path(subprocess.run(["rt", "doc"], capture_output=True, text=True).stdout.strip()).parent
-    clang = str(kit / "toolchain/bin/clang")
-    lines = {
-        "an intrinsic": "declare void @llvm.x86.sse2.pause()\n"
-                        "define void @f() {\n  call void @llvm.x86.sse2.pause()\n  ret void\n}\n",
-        "assembly": 'define void @f() {\n  call void asm sideeffect "nop", ""()\n  ret void\n}\n',
-        "assembly beside its functions": 'module asm "nop"\ndefine void @f() {\n  ret void\n}\n',
-        "neither": "define void @f() {\n  ret void\n}\n",
-    }
-    for name, text in lines.items():
-        file = folder / "given.bc"
-        file.write_text(f'target triple = "x86_64-unknown-linux-gnu"\n{text}')
-        status, _, err = answer([str(WEB / "module/compile"), clang, str(file), str(folder / "given.o")])
-        got = status, b"bound to one processor" in err
-        check(f"a module with {name}", difference(got, (0, False) if name == "neither" else (2, True)))
-
-
-def extended(folder):
-    """Results of 8 and 16 bits have no other bits: 1 and the largest number make 0."""
-    kit = pathlib.Path(subprocess.run(["rt", "doc"], capture_output=True, text=True).stdout.strip()).parent
-    file, made, linked = folder / "small.bc", folder / "small.o", folder / "small.wasm"
-    file.write_text('target triple = "x86_64-unknown-linux-gnu"\n' + "".join(
-        f"define i{bits} @f{bits}(i{bits} %n) {{\n  %m = add i{bits} %n, 1\n  ret i{bits} %m\n}}\n" for bits in (8, 16)))
-    answer([str(WEB / "module/compile"), str(kit / "toolchain/bin/clang"), str(file), str(made)])
-    answer([str(kit / "toolchain/bin/ld.lld"), "-flavor", "wasm", "-mwasm64", "--no-entry", "--export=f8", "--export=f16",
-            str(made), "-o", str(linked)])
-    run = ("const wasm = new WebAssembly.Module(require('fs').readFileSync(process.argv[1]));"
-           "const { f8, f16 } = new WebAssembly.Instance(wasm, {}).exports; console.log(f8(255), f16(65535))")
-    out = answer([*NODE, "-e", run, str(linked)])[1]
-    check("results of 8 and 16 bits are extended", difference((out,), (b"0 0\n",)))
-
-
-def scenes(name, count, script):
-    """Compares what the scenes of a script show with what they want to."""
-    if not shutil.which("node"):
-        return skip(f"the scenes of {name}", "node is missing")
-    status, out, err = answer([*NODE, str(ROOT / "tests/web" / script), str(WEB / "page"), str(WEB / "dist/pim.wasm")])
-    rows = [json.loads(line) for line in out.decode().splitlines()]
-    check(f"the scenes of {name}", difference((status, len(rows)), (0, count)) or err.decode() or None)
-    for scene, got, wanted in rows:
-        check(f"{name}: {scene}", difference((got,), (wanted,)))
-
-
-def played():
-    """What the scripts answer, each by itself: judge.js, those that answer in words and numbers, the graph, the worker."""
-    scenes("judge.js", 11, "judge.mjs")
-    scenes("the scripts", 17, "scripts.mjs")
-    scenes("why a step is refused", 15, "refusals.mjs")
-    scenes("the graph", 18, "graph.mjs")
-    scenes("the worker", 12, "worker.mjs")
-
-
 def assemble(given, to, wasm=b""):
     """Runs web/page/assemble. Returns its status, and what it prints."""
     module = given.parent / "given.wasm"
@@ -789,71 +460,364 @@ def assemble(given, to, wasm=b""):
     return status, out.decode(), err.decode()
 
 
-def assembled(folder):
-    """What web/page/assemble puts into the page, also where an example would end the script's element."""
-    given, to, wasm = folder / "listed", folder / "assembled/page", bytes(range(256)) * 5
-    given.mkdir()
-    for name in EXAMPLES:
-        (given / f"{name}.pim").write_text(f"{name}</script><!-- é\n")
-    status, out, _ = assemble(given, to, wasm)
-    page = (to / "index.html").read_bytes()
-    check("assemble", difference((status, out), (0, f"{to / 'index.html'}: {len(page):,} bytes\n")))
-    text = page.decode()
-    parts = [text.count(part) for part in ("<script>", "</script>", "<style>", "</style>", "PIM_WASM = ")]
-    check("the page's parts", difference((parts, (to / "pim.wasm").read_bytes()), ([1] * 5, wasm)))
-    style = f"<style>\n{(WEB / 'page/style.css').read_text()}</style>"
-    check("the style in the page", None if style in text else "no word of it")
-    script = text.partition("<script>\n")[2].partition("</script>")[0]
-    data, decoder = {}, json.JSONDecoder()
-    for name in ("PIM_WASM", "PIM_WORKER", "PIM_EXAMPLES"):
-        data[name] = decoder.raw_decode(script, script.index(f"const {name} = ") + len(f"const {name} = "))[0]
-    check("the module in the page", difference((base64.b64decode(data["PIM_WASM"]),), (wasm,)))
-    sources = {path.stem: path.read_text() for path in (WEB / "page").glob("*.js")}
-    worker = "'use strict'\n" + "\n".join(sources[name] for name in ("states", "engine", "worker"))
-    check("the worker in the page", difference((data["PIM_WORKER"],), (worker,)))
-    own = [name for name, source in sources.items() if source.replace("</", "<\\/") in script]
-    check("the scripts in the page", difference((sorted(own), script.endswith("\nstart()\n})()\n")),
-                                                (sorted(set(sources) - {"engine", "worker"}), True)))
-    lines = (WEB / "page/examples.txt").read_text().splitlines()[1:]
-    wanted = [[line.split(":")[0], line.split(": ", 1)[1], f"{line.split(':')[0]}</script><!-- é\n"] for line in lines]
-    got = [[name, f"{it['title']} | {it['about']}", it["text"]] for name, it in data["PIM_EXAMPLES"].items()]
-    check("the examples in the page", difference((got,), (wanted,)))
-    (given / "another.pim").write_text("")
-    (given / "ceilings.pim").unlink()
-    status, _, err = assemble(given, to)
-    check("examples that aren't listed, and that aren't there",
-          difference((status, err), (1, f"assemble: examples.txt and {given} differ in another, ceilings\n")))
-
-
-def usage(folder):
-    """What web/build says of itself, of a word that it doesn't know, and without a module."""
-    build = folder / "web/build"
-    build.parent.mkdir()
-    shutil.copy(WEB / "build", build)
-    for words, status, said in (["--help"], 0, b"usage: "), (["--pages"], 2, b"usage: "), (["--page"], 2, b"no module yet"):
-        got, out, err = answer([str(build), *words])
-        check(f"web/build {words[0]}", difference((got, said in out + err), (status, True)))
-
-
-def main():
-    parser = argparse.ArgumentParser()
-    parser.add_argument("program", nargs="?")
-    parser.add_argument("--shots", type=pathlib.Path)
-    parser.add_argument("--figures", action="store_true")
-    given = parser.parse_args()
-    pim = str(pathlib.Path(given.program).resolve()) if given.program else own_program()
+def setUpModule():
+    """Builds the page, which proves the module first."""
     status, _, err = answer([str(WEB / "build")], seconds=3600)
-    check("web/build", None if status == 0 else err.decode()[-300:])
-    with tempfile.TemporaryDirectory() as name:
-        folder = pathlib.Path(name)
-        sources()
-        played()
-        assembled(folder)
-        usage(folder)
-        bound(folder)
-        module(pim, folder)
-        page(pim, folder, given.shots, given.figures)
-    end()
+    if status:
+        raise OSError(f"web/build: {err.decode()[-300:]}")
 
 
-main()
+class Module(Case):
+    def compare(self, pim, texts, folder):
+        """Compares what the module prints of each text with the program. Returns what differs first."""
+        status, lines, err = web_module.judged(texts, folder)
+        self.check("the module runs in Node", None if status == 0 else err[-300:])
+        self.equal("each text is judged", (len(lines),), (len(texts) + 3,))
+        found = {"reports and faults": None, "states": None, "bars": None}
+        for number, (text, line) in enumerate(zip(texts, lines)):
+            status, fault, reason, report, wrong = web_module.answer_of(line)
+            got = [status, fault + reason, report]
+            status, report, fault = answer([pim, "--explain"], text)
+            wanted = [status, fault.decode(), hashlib.sha256(report).hexdigest()]
+            found["reports and faults"] = found["reports and faults"] or name_of(number, difference(got, wanted))
+            for name, count in zip(("states", "bars"), wrong):
+                found[name] = found[name] or name_of(number, difference((count,), (0,)))
+        self.check(f"{len(texts)} texts, the module compared with the program", found["reports and faults"])
+        self.check("the priorities and reasons of the getters compared with the report", found["states"])
+        self.check("what is owned and waited for, over the steps, compared with the getters", found["bars"])
+        for name, why in lines[-3] if len(lines) == len(texts) + 3 else ():
+            self.check(name, why)
+        # A text that needs more memory than there is, between texts that don't.
+        self.equal("out of memory", (lines[-2:-1],), ([[0, 3, 0, 3, 0]],))
+        self.equal("the blocks of the heap", (lines[-1:],), ([None],))
+
+    def test_the_module_is_compared_with_the_program(self):
+        if not shutil.which("node"):
+            self.skipTest("node is missing")
+        self.extended(pathlib.Path(self.folder))
+        self.compare(program(), generated(program()), pathlib.Path(self.folder))
+
+    def test_sources(self):
+        """The scripts have no word of a reply, so that they can't answer a step; and the page is small.
+
+        The keys of the table in refusals.js are looked up by what a report says of a refused step.
+        """
+        words = re.compile(r"granted|queued|freed|handed|withdrawn|released|kept|deadlock|not-owner|no-task")
+        texts = {path.name: path.read_text() for path in sorted((WEB / "page").glob("*.js"))}
+        texts["refusals.js"] = re.sub(r"^  '[a-z-]+': \(", "  (", texts["refusals.js"], flags=re.M)
+        self.check("no reply in the scripts", ", ".join(name for name, text in texts.items() if words.search(text)))
+        size = (WEB / "dist/index.html").stat().st_size
+        self.check(f"the page has less than {LIMIT:,} bytes", None if size < LIMIT else f"{size:,}")
+        begin = data_begin((WEB / "dist/pim.wasm").read_bytes())
+        self.check("the stack of the module is below its data", None if begin >= STACK else f"the data begins at {begin}")
+
+    def test_a_module_of_one_processor_is_not_compiled(self):
+        """A module of one processor isn't compiled."""
+        kit = pathlib.Path(subprocess.run(["rt", "doc"], capture_output=True, text=True).stdout.strip()).parent
+        clang = str(kit / "toolchain/bin/clang")
+        lines = {
+            "an intrinsic": "declare void @llvm.x86.sse2.pause()\n"
+                        "define void @f() {\n  call void @llvm.x86.sse2.pause()\n  ret void\n}\n",
+            "assembly": 'define void @f() {\n  call void asm sideeffect "nop", ""()\n  ret void\n}\n',
+            "assembly beside its functions": 'module asm "nop"\ndefine void @f() {\n  ret void\n}\n',
+            "neither": "define void @f() {\n  ret void\n}\n",
+        }
+        for name, text in lines.items():
+            file = pathlib.Path(self.folder) / "given.bc"
+            file.write_text(f'target triple = "x86_64-unknown-linux-gnu"\n{text}')
+            status, _, err = answer([str(WEB / "module/compile"), clang, str(file), str(pathlib.Path(self.folder) / "given.o")])
+            got = status, b"bound to one processor" in err
+            self.equal(f"a module with {name}", got, (0, False) if name == "neither" else (2, True))
+
+    def extended(self, folder):
+        """Results of 8 and 16 bits have no other bits: 1 and the largest number make 0."""
+        kit = pathlib.Path(subprocess.run(["rt", "doc"], capture_output=True, text=True).stdout.strip()).parent
+        file, made, linked = folder / "small.bc", folder / "small.o", folder / "small.wasm"
+        file.write_text('target triple = "x86_64-unknown-linux-gnu"\n' + "".join(
+            f"define i{bits} @f{bits}(i{bits} %n) {{\n  %m = add i{bits} %n, 1\n  ret i{bits} %m\n}}\n" for bits in (8, 16)))
+        answer([str(WEB / "module/compile"), str(kit / "toolchain/bin/clang"), str(file), str(made)])
+        answer([str(kit / "toolchain/bin/ld.lld"), "-flavor", "wasm", "-mwasm64", "--no-entry", "--export=f8", "--export=f16",
+                str(made), "-o", str(linked)])
+        run = ("const wasm = new WebAssembly.Module(require('fs').readFileSync(process.argv[1]));"
+           "const { f8, f16 } = new WebAssembly.Instance(wasm, {}).exports; console.log(f8(255), f16(65535))")
+        out = answer([*NODE, "-e", run, str(linked)])[1]
+        self.equal("results of 8 and 16 bits are extended", (out,), (b"0 0\n",))
+
+    def scenes(self, name, count, script):
+        """Compares what the scenes of a script show with what they want to."""
+        if not shutil.which("node"):
+            self.skipTest("node is missing")
+        status, out, err = answer([*NODE, str(ROOT / "tests/web" / script), str(WEB / "page"), str(WEB / "dist/pim.wasm")])
+        rows = [json.loads(line) for line in out.decode().splitlines()]
+        self.check(f"the scenes of {name}", difference((status, len(rows)), (0, count)) or err.decode() or None)
+        for scene, got, wanted in rows:
+            self.equal(f"{name}: {scene}", (got,), (wanted,))
+
+    def test_scripts_by_themselves(self):
+        """What the scripts answer, each by itself: judge.js, those that answer in words and numbers, the graph, the worker."""
+        self.scenes("judge.js", 11, "judge.mjs")
+        self.scenes("the scripts", 17, "scripts.mjs")
+        self.scenes("why a step is refused", 15, "refusals.mjs")
+        self.scenes("the graph", 18, "graph.mjs")
+        self.scenes("the worker", 12, "worker.mjs")
+
+    def test_what_assemble_puts_into_the_page(self):
+        """What web/page/assemble puts into the page, also where an example would end the script's element."""
+        given, to, wasm = pathlib.Path(self.folder) / "listed", pathlib.Path(self.folder) / "assembled/page", bytes(range(256)) * 5
+        given.mkdir()
+        for name in EXAMPLES:
+            (given / f"{name}.pim").write_text(f"{name}</script><!-- é\n")
+        status, out, _ = assemble(given, to, wasm)
+        page = (to / "index.html").read_bytes()
+        self.equal("assemble", (status, out), (0, f"{to / 'index.html'}: {len(page):,} bytes\n"))
+        text = page.decode()
+        parts = [text.count(part) for part in ("<script>", "</script>", "<style>", "</style>", "PIM_WASM = ")]
+        self.equal("the page's parts", (parts, (to / "pim.wasm").read_bytes()), ([1] * 5, wasm))
+        style = f"<style>\n{(WEB / 'page/style.css').read_text()}</style>"
+        self.check("the style in the page", None if style in text else "no word of it")
+        script = text.partition("<script>\n")[2].partition("</script>")[0]
+        data, decoder = {}, json.JSONDecoder()
+        for name in ("PIM_WASM", "PIM_WORKER", "PIM_EXAMPLES"):
+            data[name] = decoder.raw_decode(script, script.index(f"const {name} = ") + len(f"const {name} = "))[0]
+        self.equal("the module in the page", (base64.b64decode(data["PIM_WASM"]),), (wasm,))
+        sources = {path.stem: path.read_text() for path in (WEB / "page").glob("*.js")}
+        worker = "'use strict'\n" + "\n".join(sources[name] for name in ("states", "engine", "worker"))
+        self.equal("the worker in the page", (data["PIM_WORKER"],), (worker,))
+        own = [name for name, source in sources.items() if source.replace("</", "<\\/") in script]
+        self.check("the scripts in the page", difference((sorted(own), script.endswith("\nstart()\n})()\n")),
+                                                         (sorted(set(sources) - {"engine", "worker"}), True)))
+        lines = (WEB / "page/examples.txt").read_text().splitlines()[1:]
+        wanted = [[line.split(":")[0], line.split(": ", 1)[1], f"{line.split(':')[0]}</script><!-- é\n"] for line in lines]
+        got = [[name, f"{it['title']} | {it['about']}", it["text"]] for name, it in data["PIM_EXAMPLES"].items()]
+        self.equal("the examples in the page", (got,), (wanted,))
+        (given / "another.pim").write_text("")
+        (given / "ceilings.pim").unlink()
+        status, _, err = assemble(given, to)
+        self.check("examples that aren't listed, and that aren't there",
+                   difference((status, err), (1, f"assemble: examples.txt and {given} differ in another, ceilings\n")))
+
+    def test_usage_of_the_build(self):
+        """What web/build says of itself, of a word that it doesn't know, and without a module."""
+        build = pathlib.Path(self.folder) / "web/build"
+        build.parent.mkdir()
+        shutil.copy(WEB / "build", build)
+        for words, status, said in (["--help"], 0, b"usage: "), (["--pages"], 2, b"usage: "), (["--page"], 2, b"no module yet"):
+            got, out, err = answer([str(build), *words])
+            self.equal(f"web/build {words[0]}", (got, said in out + err), (status, True))
+
+
+class InABrowser(Case):
+    @classmethod
+    def setUpClass(cls):
+        """Uses the page, and takes down what it shows."""
+        chromium = shutil.which("chromium") or shutil.which("google-chrome")
+        if not shutil.which("node") or not chromium:
+            raise unittest.SkipTest("node or chromium is missing")
+        cls.folder_of_all = pathlib.Path(temporary_folder(cls.addClassCleanup))
+        cls.found = shown(cls.folder_of_all, chromium)
+
+    def is_shown(self, found, name, *wanted):
+        self.equal(name, (found.get(name),), wanted)
+
+    def test_start_and_examples(self):
+        self.is_shown(self.found, "start: marked lines", ["mutex 1 none", "mutex 1 inherit"])
+        self.is_shown(self.found, "start: after step 2", [
+            "After step 2: Task 1 executes at its base, 10.",
+            "After step 2: Task 1 executes at 90 instead of 10: task 3 waits for mutex 1."])
+        self.is_shown(self.found, "start: lanes of task 1", ["10", "10", "90 ▲", "10"])
+        self.is_shown(self.found, "start: opened", ["accepted 5", example("inversion_avoided", "report")])
+        for name in EXAMPLES:
+            report, lanes, about = self.found.get(f"example {name}", ["", {"prios": [], "bars": [], "rows": []}, False])
+            self.equal(f"the report of {name}", (report, about), (example(name, "report"), True))
+            self.check(f"the lanes of {name}", wrong_lanes(lanes["prios"], example(name), report))
+            if name in BARS:
+                self.equal(f"the bars of {name}", (sorted(lanes["bars"]),), (sorted(BARS[name]),))
+                self.check(f"the rows of {name}", overlaps(lanes["bars"], lanes["rows"]))
+                self.check(f"no more rows than needed, {name}", rows_of(lanes["bars"], lanes["rows"]))
+            self.equal(f"the replies of {name}", (self.found.get(f"replies of {name}"),), (replies_of(name),))
+            steps = [line[:1].isdigit() for line in example(name, "report").splitlines()]
+            self.is_shown(self.found, f"steps of the report of {name}", [sum(steps[:n + 1]) for n in range(len(steps))])
+        self.graphs(self.found)
+        made = self.found.get("example recording_rejected", [0, {}, 0])[1].get("made")
+        self.equal("the steps that tasks make", (made,), (MADE,))
+        self.details(self.found)
+
+    def graphs(self, found):
+        self.is_shown(found, "graph at the start", ["at the start", []])
+        for name, (_, _, _, boxes, arrows, why) in GRAPHS.items():
+            got = found.get(f"graph {name}", {"boxes": [], "arrows": [], "wrong": None, "why": None})
+            shown, few = got["boxes"], isinstance(boxes, list) and len(boxes[0]) == 1
+            said = len(shown) if isinstance(boxes, int) else sorted(it[:1] if few else it for it in shown)
+            self.equal(f"the boxes {name}", (said,), (boxes,))
+            self.equal(f"the arrows {name}", (sorted(got["arrows"]),), (sorted(arrows),))
+            self.equal(f"the graph {name}: why", (got["why"],), (why,))
+            self.equal(f"the places of the boxes {name}", (got["wrong"],), ([],))
+
+    def details(self, found):
+        got = found.get("details", {})
+        for name, wanted in DETAILS.items():
+            self.equal(f"details: {name}", (got.get(name),), (wanted,))
+        self.check("details: a lane's height", None if 30 <= round(got.get("tall", 0)) <= 60 else str(got.get("tall")))
+        self.is_shown(found, "details at the end", [*NAMES[:8], "base 15", *NAMES[9:]])
+        self.is_shown(found, "details, rejected", [[3, 1]])
+        self.is_shown(found, "two boosts", [[1, 1, 1, 20], [1, 3, 1, 20]])
+        # Above 95 there is no room.
+        self.is_shown(found, "numbers of 85 and 95", [-4, 13])
+        lines = [line.split(": ", 1) for line in (WEB / "page/examples.txt").read_text().splitlines()[1:]]
+        titles = {name: said.split(" | ") for name, said in lines}
+        options = [["", "Your trace"], ["start", "Start: two traces compared"], *([name, it[0]] for name, it in titles.items())]
+        self.is_shown(found, "examples", [options, titles["recording_rejected"][1]])
+        placed = found.get("rows", {"bars": [], "rows": []})
+        wanted = [["owns", 1, 1, 1, 3], ["owns", 1, 2, 2, 5], ["owns", 1, 3, 4, 8], ["owns", 1, 4, 6, 7]]
+        self.check("bars in two rows", difference((sorted(placed["bars"]),), (wanted,)) or overlaps(placed["bars"], placed["rows"])
+                   or rows_of(placed["bars"], placed["rows"]))
+        failed = found.get("failures", [""] * 3)
+        self.check("a call of the worker that fails is said", None if "is not a function" in failed[0] else failed[0])
+        self.check("a worker that fails is said", None if "TypeError" in failed[1] else failed[1])
+        self.equal("the page goes on behind it", (failed[2],), ("accepted 0",))
+
+    def test_typed_and_stepped(self):
+        self.is_shown(self.found, "typed line by line", ["accepted 5", example("inversion_avoided", "report")])
+        for name, (_, wanted) in TYPED.items():
+            self.is_shown(self.found, f"typed {name}", wanted)
+        for name, (steps, why) in REFUSED.items():
+            self.is_shown(self.found, f"refused {name}", [f"× Step {steps.count(chr(10))} is refused: {why}."])
+        for name, text in pictures().items():
+            report, prios = self.found.get(f"picture {name}", ["", []])
+            wanted = answer([program()], text.encode())[1].decode()
+            self.equal(f"the report of {name}", (report,), (wanted,))
+            self.check(f"the lanes of {name}", wrong_lanes(prios, text, wanted))
+        self.is_shown(self.found, "elements that are filled in", None)
+        self.check("elements are filled in", None if "elements that are filled in" in self.found else "none")
+        for name, wanted in LEFT_EDGE.items():
+            self.is_shown(self.found, f"the left edge, {name}", wanted)
+            self.is_shown(self.found, f"words under the left edge, {name}", [])
+            self.is_shown(self.found, f"words that are shown again, {name}", True)
+        self.is_shown(self.found, "stepping", STEPS)
+        self.is_shown(self.found, "why", WHY)
+        self.is_shown(self.found, "graph", GRAPH)
+        self.is_shown(self.found, "now in the trace", [15])
+        self.is_shown(self.found, "the buttons", STEPS[1])
+        # Of the two waiters for mutex 3, only task 4 boosts its owner.
+        self.is_shown(self.found, "arrows", ["url(#plain)"] + ["url(#waiter)"] * 6)
+        now = ["6 queued", *(f"  task {t} at 90 waiter {t + 1} mutex {t}" for t in (1, 2, 3))]
+        self.is_shown(self.found, "now in the report", now)
+        self.is_shown(self.found, "tip", "task 3 at 90: task 4 waits for mutex 3")
+        self.is_shown(self.found, "a click in the lanes", STEPS[1])
+        self.is_shown(self.found, "the caret", "Step 4: 2 lock 1 → queued")
+
+    def test_narrow(self):
+        both = [[True, True]] * len(REPLIES)
+        self.is_shown(self.found, "replies at 390 pixels", [[[reply, True, reply != REPLIES[-1]] for reply in REPLIES], both])
+        self.is_shown(self.found, "the caret at 390 pixels", True)
+
+    def test_files_and_address(self):
+        self.is_shown(self.found, "a file opened", ["accepted 1", "1 granted\n  task 1 at 40 ceiling 1\naccepted 1\n"])
+        rejected = "1 refused no-mutex but recorded granted\nrejected 1\n"
+        self.is_shown(self.found, "a file dropped", ["rejected at step 1", rejected])
+        self.is_shown(self.found, "the caret behind a file", [True, True])
+        self.is_shown(self.found, "files with other line ends", ["rejected at step 1"] * 2)
+        hash_ = "#trace=pim%201%0Atask%201%2010%0A1%20lock%201%20%3D%20granted%0A"
+        self.is_shown(self.found, "the address", [hash_, "rejected at step 1", DROPPED])
+        self.check("the picture saved as SVG", wrong_svg(self.folder_of_all / "first.svg"))
+        picture, made = WEB / "inversion.svg", self.folder_of_all / "inversion.svg"
+        same = picture.exists() and made.exists() and picture.read_bytes() == made.read_bytes()
+        self.check("web/inversion.svg is what the page saves", None if same else "--shots FOLDER has what it saves now")
+        self.check("a long boost in a picture saved as SVG", wrong_boost(self.folder_of_all / "boost.svg"))
+        # Twice as large as two columns of 84 pixels and 4 more, names of 84 and a rim of 24, and a lane of 59 below 20.
+        self.is_shown(self.found, "the picture saved as PNG", [2 * (84 + 2 * 84 + 4 + 24), 2 * (20 + 59 + 24), 255, True])
+        self.equal("unfolded lanes in a picture", (names_in(self.folder_of_all / "unfolded.svg"),), (list(range(1, 21)),))
+        # 1,201 columns of 26 pixels. Each fifth has its number, and the chosen one, next to which there is no room.
+        self.check("a part of a long trace", wrong_part(self.folder_of_all / "middle.svg", list(range(39_400, 40_601, 5))))
+        self.check("the end of a long trace", wrong_part(self.folder_of_all / "end.svg", [*range(64_340, 65_535, 5), 65_536]))
+        png = self.folder_of_all / "middle.png"
+        wide = int.from_bytes(png.read_bytes()[16:20], "big") if png.exists() else 0
+        self.check("a part of a long trace as PNG", None if 16_000 <= wide <= 16_384 else f"{wide} pixels wide")
+
+    def test_full_size(self):
+        """What is shown of a trace of 65,536 steps, which is scrolled, edited, copied and pasted."""
+        self.is_shown(self.found, "full size", ["accepted 65536", FULL])
+        self.is_shown(self.found, "full size: the line of a step above", True)
+        self.is_shown(self.found, "full size: the end", ["Step 65536", 65_553, "accepted 65536"])
+        prios = self.found.get("full size: lanes", {"prios": []})["prios"]
+        report = answer([program()], mixed(8, 65_536).encode())[1].decode()
+        self.check("full size: the lanes at the end", wrong_end(prios, mixed(8, 65_536), report))
+        # Eight tasks and eight mutexes are declared, behind the version.
+        step, reply = mixed(8, 65_536).splitlines()[17 + 40_000 - 1], re.search(r"^40000 (.*)$", report, re.M)[1]
+        kind = "path" if reply.startswith("refused") else "circle"
+        self.is_shown(self.found, "full size: made", [[kind, int(step.split()[0]), f"step 40000: {step}, {reply}"]])
+        self.is_shown(self.found, "full size: numbers that overlap", 0)
+        self.is_shown(self.found, "full size, typed at the end", "line 65554 is invalid")
+        self.is_shown(self.found, "full size, typed at the beginning", ["line 1 is invalid", [1]])
+        self.is_shown(self.found, "full size, typed in the middle", ["line 40017 is invalid", [40_017]])
+        for lines in (1_000, 40_000):
+            self.is_shown(self.found, f"full size, Control {lines} lines above the caret", False)
+            self.is_shown(self.found, f"full size, a key {lines} lines above the caret", True)
+        self.is_shown(self.found, "full size, copied", True)
+        self.is_shown(self.found, "full size, pasted over all", ["line 65554 is invalid", [65_554]])
+        self.is_shown(self.found, "full size, typed over all", ["accepted 0", "pim 1"])
+        for steps in EDITED:
+            self.is_shown(self.found, f"edits of {steps} steps", None)
+            self.check(f"edits of {steps} steps are made", None if f"edits of {steps} steps" in self.found else "none")
+        self.is_shown(self.found, "undone", UNDONE)
+        self.is_shown(self.found, "undone, below the text area", UNDONE)
+        self.is_shown(self.found, "undone in a line", IN_LINE)
+        self.is_shown(self.found, "places of the editor", PLACES)
+        # 2,300 steps behind four tasks, four mutexes and the version, and an empty line; a line has 21 pixels.
+        self.is_shown(self.found, "over all", ["", "\n", "漢", f"{21 * (9 + EDITED[1] + 1) + 16}px"])
+        self.keys_of_lines(self.found)
+        # of the steps whose tasks are 400,000 at most
+        self.is_shown(self.found, "256 tasks: the chosen step", f"Step {most_boosted(program(), mixed(256, 400_000 // 256))}")
+        for name in ("the last text", "a file that is read after a later text"):
+            self.is_shown(self.found, name, ["accepted 7", example("ceilings", "report")])
+        self.is_shown(self.found, "folded", [["task 1", "task 3", "task 20"], "Show 17 tasks that no step names"])
+        self.is_shown(self.found, "lanes that aren't drawn", [])
+        self.is_shown(self.found, "unfolded", [["task 1", "task 2", "task 3"], "task 20", "Fold the tasks that no step names"])
+
+    @unittest.skipUnless(os.environ.get("FIGURES"), "for an idle machine: FIGURES=1")
+    def test_figures(self):
+        """The CPU time of the page's own thread."""
+        for name, most in MOST.items():
+            took = self.found.get(f"{name}: milliseconds", most)
+            print(f"{name} takes {took:.0f} ms")
+            self.check(name, None if took < most else f"{most} at most")
+        for name in keyed():
+            got = self.found.get(f"keys, {name}", NO_KEYS)
+            held, making, took = (sorted(it) for it in (got["held"], got["making"], [it["took"] for it in got["made"]]))
+            usual, allowed = held[len(held) // 2], HELD * making[len(making) // 2]
+            said = f"a key holds the page {usual:.0f} ms, {held[-1]:.0f} at most, and is drawn after"
+            why = None if usual < allowed else f"{allowed:.0f} ms, what {HELD},000 elements take"
+            print(f"{said} {took[len(took) // 2]:.0f}, {name}")
+            self.check(f"a key, {name}", why)
+
+    def keys_of_lines(self, found):
+        """What a key in a text of 200 lines makes. All counts are of one frame."""
+        for name, given in keyed().items():
+            self.is_shown(found, f"words wrongly hidden, {name}", 0)
+            got = found.get(f"keys, {name}", NO_KEYS)
+            of_line = got["made"][3:7] if given["keys"] == LINE_KEYS else [{"all": 0}]
+            line = max(it["all"] for it in of_line)
+            counts = {kind: max(it[kind] for it in got["made"]) for kind in ("most", "painted")}
+            counts |= {kind: max(got[kind]) for kind in ("restyled", "laid", "layouts")}
+            for kind, most in MOST_OF_A_FRAME.items():
+                is_most = None if counts[kind] <= most else f"{most} at most"
+                self.check(f"of a frame, {FRAME[kind]}: {counts[kind]}, {name}", is_most)
+            self.check(f"a key that changes no step makes {line}, {name}", None if line <= MOST_OF_A_LINE else f"{MOST_OF_A_LINE} at most")
+
+    def test_focus_and_what_is_spoken(self):
+        focus = ["examples", "open", "more", "text", "report", "svg", "png", "time", "back", "on", "slider", "graph"]
+        self.is_shown(self.found, "the focus", focus)
+        self.is_shown(self.found, "about", True)
+        self.is_shown(self.found, "about is closed", False)
+        spoken = set(self.found.get("spoken", []))
+        wanted = {"region Report", "textbox The trace", "slider Step", "combobox Examples", "button About",
+                  "button Step on"}
+        self.equal("spoken", (wanted - spoken,), (set(),))
+        self.is_shown(self.found, "spoken report", True)
+        for name, got in self.found.items():
+            if " pixels, " in name:
+                self.check(name, difference(tuple(got), (0, [])))
+        self.equal("six looks at four texts", (sum(" pixels, " in name for name in self.found),), (24,))
+        self.is_shown(self.found, "requests", [])
+        self.is_shown(self.found, "errors", [])
+        self.is_shown(self.found, "a request", "refused")
