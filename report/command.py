@@ -27,7 +27,7 @@ that is.
 
   -f, --facts FILE     read a text of facts in place of a recording
   -H, --html FILE      write a page too, which opens from the disk and needs no network
-  -j, --json           print JSON in place of the text; docs/REPORT.md has its keys
+  -j, --json           print JSON in place of the text; docs/JSON.md has its keys
   -a, --all            print all findings of each kind, and keep all facts in the page
       --all-mutexes    print a table of all mutexes too: locks, how many had to wait, how long one
                        was owned, waits, and where they were. JSON has it, too
