@@ -51,13 +51,19 @@ like_same a t = record { gets = refl; waits = refl; inverted = refl; stalled = r
 either_before : (w : Window) (m : Moment) (ms : List Moment) (k : ThreadTracks) (t : ℕ)
     → IsThread w ms k t → IsThreadEither w m ms k t
 either_before w m ms k t is = record {
-  gets = inl is.gets; waits = inl is.waits; inverted = inl is.inverted; stalled = inl is.stalled;
+  gets = inl is.gets;
+  waits = inl is.waits;
+  inverted = inl is.inverted;
+  stalled = inl is.stalled;
 }
 
 either_after : (w : Window) (m : Moment) (ms : List Moment) (k : ThreadTracks) (t : ℕ)
     → IsThread w (m ∷ ms) k t → IsThreadEither w m ms k t
 either_after w m ms k t is = record {
-  gets = inr is.gets; waits = inr is.waits; inverted = inr is.inverted; stalled = inr is.stalled;
+  gets = inr is.gets;
+  waits = inr is.waits;
+  inverted = inr is.inverted;
+  stalled = inr is.stalled;
 }
 
 still : (w : Window) (m : Moment) (ms : List Moment) (k : ThreadTracks) (t : ℕ)

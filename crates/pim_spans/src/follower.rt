@@ -92,14 +92,7 @@ impl Follower {
         let affected = affected(alloc, &self.world, line, thread)?;
         self.threads
             .follow(alloc, &self.world, &affected, at, self.window)?;
-        follow_owner(
-            &mut self.owns,
-            alloc,
-            &self.world,
-            mutex,
-            at,
-            self.window,
-        )?;
+        follow_owner(&mut self.owns, alloc, &self.world, mutex, at, self.window)?;
         Ok(())
     }
 

@@ -79,8 +79,10 @@ impl ThreadTracks {
             → IsThreadLike self.old self.new n) }
     {
         let place = thread.0;
-        self.gets.note(alloc, place, level_of(world, thread), at, window)?;
-        self.waits.note(alloc, place, awaited_by(world, thread), at, window)?;
+        self.gets
+            .note(alloc, place, level_of(world, thread), at, window)?;
+        self.waits
+            .note(alloc, place, awaited_by(world, thread), at, window)?;
         let line = self.waits.line(place);
         let standing = Standing::of(world, thread);
         let inverted = of_wait(line, standing.inverted);

@@ -31,12 +31,11 @@ returns c =
     let ms = c.loop-rest.invariant.1 in
     let way = c.loop-rest.invariant.2 in
     let none_left : length c.loop-rest.rest.now ≡ 0 = search rules in
-    let whole = ended c.loop-rest.rest.now none_left way in
-    (
+    let whole = ended c.loop-rest.rest.now none_left way in (
       way.lines,
       way.says,
       c.in_ok-put_all.ensures ms c.loop-rest.invariant.3
-      ∙ ap (λ (xs : List ℕ). xs ++ spans_text c.loop-rest.follower.window ms) c.new-out.ensures.items
-      ∙ ap (λ (w : Window). spans_text w ms) c.loop-rest.invariant.0
-      ∙ ap (spans_text c.args.window) whole,
+          ∙ ap (λ (xs : List ℕ). xs ++ spans_text c.loop-rest.follower.window ms) c.new-out.ensures.items
+          ∙ ap (λ (w : Window). spans_text w ms) c.loop-rest.invariant.0
+          ∙ ap (spans_text c.args.window) whole,
     )
