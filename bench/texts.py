@@ -1,4 +1,4 @@
-"""Traces of any size, the same at each run, for the scripts that measure and for tests/judge.
+"""Traces of any size, the same at each run, for the scripts that measure and for tests/program/test_judge.py.
 
 Each has a number of tasks (2 to 256) and of steps. A longer trace starts with the steps of a
 shorter one, so the difference of their times is the time of the further steps.

@@ -19,7 +19,7 @@ FILE = ROOT / "VERSION"
 PLACES = [
     ("crates/pim_tool/src/command_line.rt", '.version("{version}")'),
     ("crates/pim_findings/src/command_line.rt", '.version("{version}")'),
-    ("crates/pim_judge_tests/src/command_words.rt", r'"pim {version}\n"'),
+    ("crates/pim_tool_tests/src/command_words.rt", r'"pim {version}\n"'),
     ("crates/pim_c/src/version.rt", "the version {version} as one number"),
     ("crates/pim_c/src/version.rt", "ensures {{ result ≡ {number} }}"),
     ("crates/pim_c/src/version.rt", "{{\n    {number}\n}}"),

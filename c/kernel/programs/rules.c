@@ -1,6 +1,6 @@
 /* The rules of the scheduler: which of several threads of one priority runs first, by
  * POSIX.1-2017, 2.8.4, SCHED_FIFO, and how many waits a tick ends. Prints the threads of each
- * scene in the order of their turns. tests/kernel knows the right order.
+ * scene in the order of their turns. tests/c/test_kernel.py knows the right order.
  *
  * In each scene the director, at 90, starts the others and acts on them. They run once it has
  * ended or parks. */

@@ -1,2 +1,4 @@
 pub mod PrintingLemmas
 pub mod ReportLemmas
+pub mod TraceLineLemmas
+pub mod EntryLemmas

@@ -9,6 +9,8 @@
 //! [`MemoryReader`] and [`MemoryWriter`] are streams in memory, and the contracts name their contents.
 //!
 //! Other crates print with a [`Printer`], read with [`read_all`], and make the manager of a text with [`manager_of`].
+//! A run is a list of entries, steps with the replies to them. [`print_trace`] writes it as a trace, [`judge_entries`]
+//! compares its replies with the model's, and [`print_verdict`] writes the last line of a report.
 //!
 //! ```text
 //! let text = b"pim 1\ntask 1 10\nmutex 1 protect 40\n1 lock 1\n";
@@ -17,13 +19,16 @@
 //! ```
 #![tactic(auto)]
 
+mod entries;
 mod fault;
 mod judging;
 mod printer;
 mod reading;
 mod report;
+mod trace;
 mod transfer;
 
+pub use entries::{judge_entries, print_verdict};
 pub use fault::Fault;
 pub use judging::{Judged, judge, judge_bytes, manager_of, status};
 pub use pim_base::{StepLine, Verdict};
@@ -31,4 +36,5 @@ pub use pim_page::{Failed, Input, MemoryReader, MemoryWriter, Output, Sink, Sour
 pub use pim_text::Text;
 pub use printer::Printer;
 pub use reading::{parse, parse_script};
+pub use trace::print_trace;
 pub use transfer::read_all;

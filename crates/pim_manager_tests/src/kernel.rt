@@ -18,7 +18,7 @@ const BY_SECOND: Why = Why::Waiter(2, 1);
 
 /// Tasks 1 and 2 have the bases 10 and 50. Task 1 owns mutex 1, an INHERIT one, and task 2 waits for it. Mutex 2 has
 /// the ceiling 60.
-const ROWS: [Row; 8] = [
+const ROWS: [Row; 9] = [
     Row(
         SetBase(TaskNo(2), 70),
         Set,
@@ -27,6 +27,7 @@ const ROWS: [Row; 8] = [
     ),
     Row(SetBase(TaskNo(3), 70), Refused(Refusal::NoTask), 0, &[]),
     Row(SetBase(TaskNo(1), 100), Refused(Refusal::Priority), 0, &[]),
+    Row(SetBase(TaskNo(1), 0), Refused(Refusal::Priority), 0, &[]),
     Row(Cancel(TaskNo(2)), Withdrawn, 1, &[(1, 10, Why::Base)]),
     Row(Cancel(TaskNo(2)), Refused(Refusal::NotWaiting), 0, &[]),
     Row(Cancel(TaskNo(0)), Refused(Refusal::NoTask), 0, &[]),

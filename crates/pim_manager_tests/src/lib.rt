@@ -2,7 +2,7 @@
 //!
 //! They call each public function once, with values worked out by hand, and make queues, tables and managers of 0 to
 //! 256 tasks. They show what no contract says: a call that may run out of memory succeeds, a step makes as many visits
-//! as it needs, and a fault has its text. The scenarios of the steps are in pim_agreement.
+//! as it needs, and a fault has its text. The scenarios of the steps are texts of suite/.
 //!
 //! All are in one crate: a crate with tests is proved a second time with them, and each further one has a fixed cost.
 #![tactic(auto)]

@@ -174,7 +174,7 @@ fn play(
 }
 
 /// Steps of tasks 1 to 3, of bases 10, 20 and 90, over two INHERIT mutexes, and two with ceilings 40 and 95.
-const STEPS: [Row; 23] = [
+const STEPS: [Row; 24] = [
     Row(1, Lock(FIRST), Granted, 0, &[]),
     Row(2, Lock(SECOND), Granted, 0, &[]),
     Row(2, Lock(FIRST), Queued, 1, &[(1, 20, BY_SECOND)]),
@@ -225,6 +225,13 @@ const STEPS: [Row; 23] = [
         Handed(TaskNo(1)),
         2,
         &[(1, 40, Why::Ceiling(3)), (2, 30, Why::Base)],
+    ),
+    Row(
+        1,
+        SetCeiling(THIRD, 30),
+        Set,
+        1,
+        &[(1, 30, Why::Ceiling(3))],
     ),
 ];
 
@@ -308,38 +315,30 @@ fn mutexes_that_a_step_hands_over_are_listed(rt: HostRuntime) -> Result<(), Fail
     Ok(())
 }
 
-const BY_CEILING: Why = Why::Ceiling(1);
-
-/// Steps of tasks 1 and 2, of bases 20 and 40, over a mutex with ceiling 50, at first, and a NONE one.
-const CEILINGS: [Row; 10] = [
-    Row(1, Lock(FIRST), Granted, 1, &[(1, 50, BY_CEILING)]),
-    Row(1, SetCeiling(FIRST, 30), Set, 1, &[(1, 30, BY_CEILING)]),
-    Row(2, SetCeiling(FIRST, 60), Refused(Refusal::Busy), 0, &[]),
-    Row(2, Lock(FIRST), Refused(Refusal::Ceiling), 0, &[]),
-    Row(1, SetCeiling(FIRST, 10), Set, 1, &[(1, 20, Why::Base)]),
-    Row(
-        1,
-        SetCeiling(SECOND, 30),
-        Refused(Refusal::NotProtect),
-        0,
-        &[],
-    ),
-    Row(
-        1,
-        SetCeiling(FIRST, 100),
-        Refused(Refusal::Priority),
-        0,
-        &[],
-    ),
-    Row(1, Unlock(FIRST), Freed, 0, &[]),
-    Row(2, SetCeiling(FIRST, 45), Set, 0, &[]),
-    Row(2, Lock(FIRST), Granted, 1, &[(2, 45, BY_CEILING)]),
+/// Steps of tasks 1 to 3, of bases 10, 20 and 30, over an INHERIT mutex, when only one ticket is left.
+const LAST_TICKET: [Row; 4] = [
+    Row(1, Lock(FIRST), Granted, 0, &[]),
+    Row(2, Lock(FIRST), Queued, 1, &[(1, 20, BY_SECOND)]),
+    Row(3, Lock(FIRST), Refused(Refusal::Tickets), 0, &[]),
+    Row(3, Try(FIRST), Refused(Refusal::Busy), 0, &[]),
 ];
 
+/// Tests that the last ticket isn't given out.
+fn expect_last_ticket(rt: &impl Abort, manager: &Manager) {
+    assert!(rt; manager.next_ticket() == u64::MAX);
+}
+
 #[test]
-fn ceiling_that_is_set_changes_the_owner(rt: HostRuntime) -> Result<(), Fail> {
-    let protocols = [Protocol::Protect(prio(&rt, 50)), Protocol::None];
-    play(&rt, rt.alloc(), &[20, 40], &protocols, &CEILINGS)
+fn last_ticket_but_one_is_given_out_and_no_more(rt: HostRuntime) -> Result<(), Fail> {
+    let bases = prios(&rt, rt.alloc(), &[10, 20, 30])?;
+    let next = u64::MAX - 1;
+    let mut manager = Manager::with_next_ticket(rt.alloc(), &bases, &[Inherit], next)?;
+    let mut tracked = TrackedManager::with_next_ticket(rt.alloc(), &bases, &[Inherit], next)?;
+    for row in &LAST_TICKET {
+        expect_row(&rt, &mut tracked, &mut manager, row);
+    }
+    expect_last_ticket(&rt, &manager);
+    Ok(())
 }
 
 /// Tests that only a free mutex gets another protocol.

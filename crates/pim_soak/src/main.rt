@@ -1,28 +1,34 @@
-//! Runs random scripts for some time while readers read, and compares replies and reads with the plain manager.
+//! What the tests and measurements of the manager run, a job for each argument.
 //!
 //! `pim_soak SECONDS [SEED]` generates tasks, mutexes and a script for each task. It runs the scripts, each by a worker in
 //! its own thread, while 8 wait-free readers read all the time. It makes the steps of the log again on the plain manager,
 //! and compares each reply, each read and the final manager. Then it generates the next scripts. Once a second it reports
 //! its progress on standard error. At the end it prints one line: the numbers of scripts, steps, reads and differences.
-//! The status is 0 without a difference, else 1.
+//! The status is 0 without a difference, else 1. The scripts with number k have the seed SEED + k. Each difference is
+//! reported with its seed, which finds it again as far as the schedule of the threads allows.
 //!
-//! The scripts with number k have the seed SEED + k. Each difference is reported with its seed, which finds it again as far
-//! as the schedule of the threads allows.
-//!
-//! `pim_soak planted SEED` runs the scripts of one seed several times, each time with another mistake put into what is
-//! compared, and prints how many differences it finds.
-//!
-//! `pim_soak opposite` runs the scripts of 16 tasks that lock two mutexes in opposite orders, and prints the same line.
+//! | Job | What it does |
+//! |---|---|
+//! | `planted SEED` | runs the scripts of one seed several times, each time with another mistake put into what is compared, and prints how many differences it finds |
+//! | `opposite` | runs the scripts of 16 tasks that lock two mutexes in opposite orders, and prints the same line |
+//! | `judge` | reads a trace, and prints the report that the plain manager gives |
+//! | `allocations [CALL]` | prints the calls that allocate, or makes one of them |
+//! | `bench full`, `bench small` | prints how fast readers read and threads call; `small` takes a moment, and says nothing about speed |
 #![tactic(auto)]
 
+mod allocations;
+mod bench;
 mod crowd;
 mod figures;
 mod lookers;
+mod plain_judge;
 mod planted;
 mod replay;
 mod scene;
 mod trial;
 
+use crate::allocations::Call;
+use crate::bench::{Amount, print_rates};
 use crate::figures::Figures;
 use crate::planted::Planted;
 use crate::scene::Scene;
@@ -52,6 +58,14 @@ enum Job {
     Planted(u64),
     /// The scripts in opposite orders.
     Opposite,
+    /// The report of a trace.
+    Judge,
+    /// The names of the calls that allocate.
+    Calls,
+    /// A call that allocates.
+    Allocations(Call),
+    /// Rates of reads and calls.
+    Bench(Amount),
 }
 
 fn main(rt: HostRuntime) -> io::Result<ExitCode> {
@@ -60,8 +74,17 @@ fn main(rt: HostRuntime) -> io::Result<ExitCode> {
         Some(Job::Soak(seconds, seed)) => soak_and_print(&rt, rt.alloc(), seconds, seed),
         Some(Job::Planted(seed)) => print_planted(&rt, rt.alloc(), seed),
         Some(Job::Opposite) => print_opposite(&rt, rt.alloc()),
+        Some(Job::Judge) => Ok(plain_judge::judge(&rt)),
+        Some(Job::Calls) => print_calls(&rt),
+        Some(Job::Allocations(call)) => make_call(&rt, rt.alloc(), call),
+        Some(Job::Bench(amount)) => {
+            print_rates(&rt, rt.alloc(), amount)?;
+            Ok(ExitCode::from(0))
+        }
         None => {
-            eprintln!(&rt; "pim_soak SECONDS [SEED] | planted SEED | opposite")?;
+            eprintln!(&rt;
+                "pim_soak SECONDS [SEED] | planted SEED | opposite | judge | allocations [CALL] | bench full | bench small"
+            )?;
             Ok(ExitCode::from(FAULT))
         }
     }
@@ -70,13 +93,79 @@ fn main(rt: HostRuntime) -> io::Result<ExitCode> {
 /// Returns what the command line asks for, or None if the arguments are wrong. The seed is 1 if it is missing.
 fn job_of(words: &[String]) -> Option<Job> {
     match words {
-        [_program, job] if job.as_str() == "opposite" => Some(Job::Opposite),
-        [_program, seconds] => Some(Job::Soak(seconds.parse().ok()?, 1)),
-        [_program, job, seed] if job.as_str() == "planted" => Some(Job::Planted(
-            seed.parse().ok()?,
-        )),
-        [_program, seconds, seed] => Some(Job::Soak(seconds.parse().ok()?, seed.parse().ok()?)),
+        [_program, job] => job_of_one(job.as_str()),
+        [_program, job, argument] => job_of_two(job.as_str(), argument.as_str()),
         _ => None,
+    }
+}
+
+/// Returns the job of one argument.
+fn job_of_one(job: &str) -> Option<Job> {
+    if job == "opposite" {
+        Some(Job::Opposite)
+    } else if job == "judge" {
+        Some(Job::Judge)
+    } else if job == "allocations" {
+        Some(Job::Calls)
+    } else {
+        Some(Job::Soak(job.parse().ok()?, 1))
+    }
+}
+
+/// Returns the job of two arguments.
+fn job_of_two(job: &str, argument: &str) -> Option<Job> {
+    if job == "planted" {
+        Some(Job::Planted(argument.parse().ok()?))
+    } else if job == "bench" {
+        Some(Job::Bench(amount_of(argument)?))
+    } else if job == "allocations" {
+        Some(Job::Allocations(call_of(argument)?))
+    } else {
+        Some(Job::Soak(job.parse().ok()?, argument.parse().ok()?))
+    }
+}
+
+/// Returns how much is measured.
+fn amount_of(name: &str) -> Option<Amount> {
+    if name == "full" {
+        Some(Amount::Full)
+    } else if name == "small" {
+        Some(Amount::Small)
+    } else {
+        None
+    }
+}
+
+/// Returns the call of this name.
+fn call_of(name: &str) -> Option<Call> {
+    for call in Call::ALL {
+        if call.name() == name {
+            return Some(call);
+        }
+    }
+    None
+}
+
+/// Prints the names of the calls that allocate.
+fn print_calls<R: Print>(rt: &R) -> io::Result<ExitCode> {
+    for call in Call::ALL {
+        println!(rt; "{}", call.name())?;
+    }
+    Ok(ExitCode::from(0))
+}
+
+/// Makes a call that allocates, and prints how it fails, if it does.
+fn make_call<R: Threads + Wait + Sync + Eprint>(
+    rt: &R,
+    alloc: Global,
+    call: Call,
+) -> io::Result<ExitCode> {
+    match call.make(rt, alloc) {
+        Ok(()) => Ok(ExitCode::from(0)),
+        Err(failure) => {
+            eprintln!(rt; "{failure}")?;
+            Ok(ExitCode::from(DIFFERS))
+        }
     }
 }
 

@@ -4,8 +4,8 @@ use Rattle.std.proofs.lemmas.List.{take-append-drop, take-take, length-take}
 use Rattle.std.proofs.lemmas.Bool.{cases_order}
 use Rattle.pim_base.specs.Texts.{IsTrace, FirstBad}
 use Rattle.pim_base.specs.Scripts.{IsScript}
-use Rattle.pim_text.specs.declared.kind.TextKind.{TextKind}
-use Rattle.pim_text.specs.declared.kind.TextKind.TheVariants as kinds
+use Rattle.pim_text.specs.declared.kind.Kind.{Kind}
+use Rattle.pim_text.specs.declared.kind.Kind.TheVariants as kinds
 use Rattle.pim_text.specs.Kinds.{IsOf}
 use Rattle.pim_text.specs.Laws.{AtMostOneIsFirst, ValidHasNone}
 use Rattle.pim_text.proofs.GrowthLemmas.{front_is}
@@ -14,7 +14,7 @@ use Rattle.pim_text.proofs.GrowthLemmas.{front_is}
 abbrev HasFronts : (List (List ℕ) → Type 0) → Type 0
 HasFronts Is = (ls : List (List ℕ)) (n : ℕ) → 0 < n → Is ls → Is (take n ls)
 
-fronts : (kind : TextKind) → HasFronts (IsOf kind)
+fronts : (kind : Kind) → HasFronts (IsOf kind)
 fronts kind ls n some is =
     front_is kind (take n ls) (drop n ls) (omega (arith, length-take n ls, ap length is.1.0.1))
     (subst (IsOf kind) (sym (take-append-drop n ls)) is)

@@ -13,8 +13,8 @@ use Rattle.pim_base.specs.Spelling.{version_line, IsLine, BelongsTo, spelled}
 use Rattle.pim_base.specs.Texts.{Trace, declared, IsWithinLimits, spelled_lines, Spells}
 use Rattle.pim_text.specs.Reading.{ReadsBytes, empty_of, with_line, MayFollow}
 use Rattle.pim_base.specs.Scripts.{StandsInScript}
-use Rattle.pim_text.specs.declared.kind.TextKind.{TextKind}
-use Rattle.pim_text.specs.declared.kind.TextKind.TheVariants as kinds
+use Rattle.pim_text.specs.declared.kind.Kind.{Kind}
+use Rattle.pim_text.specs.declared.kind.Kind.TheVariants as kinds
 use Rattle.pim_text.specs.Kinds.{Allows, Obeys, SpellsAs, IsOf}
 use Rattle.pim_text.proofs.SpellingLemmas.{all_append, spelled_same}
 use Rattle.pim_text.proofs.TraceLemmas.{declared-with_line, spelled_once}
@@ -110,7 +110,7 @@ grows ls t m spells is belongs may = grind (arith, declared-with_line, all_appen
 -- ---- the rules of a kind, line by line
 
 obeys_more :
-    (kind : TextKind) (t : Trace) (m : Line)
+    (kind : Kind) (t : Trace) (m : Line)
     → MayFollow t m
     → Allows kind t m
     → Obeys kind t
@@ -118,7 +118,7 @@ obeys_more :
 obeys_more kind t m may allowed h = grind (arith, common_steps)
 
 obeys_parts :
-    (kind : TextKind) (t : Trace) (m : Line)
+    (kind : Kind) (t : Trace) (m : Line)
     → MayFollow t m
     → Obeys kind (with_line t m)
     → Obeys kind t × Allows kind t m
@@ -143,7 +143,7 @@ version-with_line t (lines.Mutex n p) = refl
 version-with_line t (lines.Step s) = refl
 
 -- the last line of a text that has others, and the lines before it
-record Shrunk (kind : TextKind) (ls : List (List ℕ)) (bytes : List ℕ) : Type 0 where
+record Shrunk (kind : Kind) (ls : List (List ℕ)) (bytes : List ℕ) : Type 0 where
   before : Trace
   line : Line
   is : IsLine line
@@ -154,7 +154,7 @@ record Shrunk (kind : TextKind) (ls : List (List ℕ)) (bytes : List ℕ) : Type
   allowed : Allows kind before line
 
 shrinks :
-    (kind : TextKind) (ls : List (List ℕ)) (bytes : List ℕ)
+    (kind : Kind) (ls : List (List ℕ)) (bytes : List ℕ)
     → 0 < length ls
     → IsOf kind (ls ++ bytes ∷ [])
     → Shrunk kind ls bytes
@@ -193,7 +193,7 @@ shrinks kind ls bytes some valid =
     ]
 
 -- the lines of a text begin with those of one
-pub front_is : (kind : TextKind) (ls rest : List (List ℕ)) → 0 < length ls → IsOf kind (ls ++ rest) → IsOf kind ls
+pub front_is : (kind : Kind) (ls rest : List (List ℕ)) → 0 < length ls → IsOf kind (ls ++ rest) → IsOf kind ls
 front_is kind ls [] some valid = subst (IsOf kind) (append-nil ls) valid
 front_is kind ls (l ∷ rest) some valid =
     let more : IsOf kind (ls ++ l ∷ []) =
@@ -203,7 +203,7 @@ front_is kind ls (l ∷ rest) some valid =
 
 -- if no line that may follow is spelled so, there is no valid text
 stops :
-    (kind : TextKind) (ls : List (List ℕ)) (t : Trace) (bytes : List ℕ)
+    (kind : Kind) (ls : List (List ℕ)) (t : Trace) (bytes : List ℕ)
     → Spells ls t
     → ((m : Line) → IsLine m → BelongsTo t.version m → MayFollow t m → Allows kind t m → bytes ≡ spelled m → ⊥)
     → IsOf kind (ls ++ bytes ∷ []) → ⊥
@@ -220,7 +220,7 @@ stops kind ls t bytes spells none valid =
 -- ---- what the reading of a line adds
 
 pub adds_line :
-    {E : Type 0} (kind : TextKind) (t u : Trace) (bytes : List ℕ) (m : Line) (r : Result Bool E)
+    {E : Type 0} (kind : Kind) (t u : Trace) (bytes : List ℕ) (m : Line) (r : Result Bool E)
     → IsLine m × (bytes ≡ spelled m)
     → BelongsTo t.version m
     → Allows kind t m
@@ -238,7 +238,7 @@ adds_line kind t u bytes m (Ok false) read belongs allowed h =
 
 -- a line of a later version
 pub later_line :
-    (kind : TextKind) (t : Trace) (bytes : List ℕ) (m : Line)
+    (kind : Kind) (t : Trace) (bytes : List ℕ) (m : Line)
     → IsLine m × (bytes ≡ spelled m)
     → (BelongsTo t.version m → ⊥)
     → (ls : List (List ℕ)) → SpellsAs kind ls t → IsOf kind (ls ++ bytes ∷ []) → ⊥
@@ -249,7 +249,7 @@ later_line kind t bytes m read none ls spells =
 
 -- a line that the kind doesn't allow
 pub not_allowed :
-    (kind : TextKind) (t : Trace) (bytes : List ℕ) (m : Line)
+    (kind : Kind) (t : Trace) (bytes : List ℕ) (m : Line)
     → IsLine m × (bytes ≡ spelled m)
     → (Allows kind t m → ⊥)
     → (ls : List (List ℕ)) → SpellsAs kind ls t → IsOf kind (ls ++ bytes ∷ []) → ⊥
@@ -258,7 +258,7 @@ not_allowed kind t bytes m read none ls spells =
     let same : l ≡ m = spelled_same l m is read.0 (sym e ∙ read.1) in none (subst (Allows kind t) same allowed))
 
 pub no_line_read :
-    (kind : TextKind) (t : Trace) (bytes : List ℕ) (ls : List (List ℕ))
+    (kind : Kind) (t : Trace) (bytes : List ℕ) (ls : List (List ℕ))
     → ReadsBytes bytes None
     → SpellsAs kind ls t
     → IsOf kind (ls ++ bytes ∷ [])

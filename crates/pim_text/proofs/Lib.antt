@@ -11,3 +11,5 @@ pub mod TraceLemmas
 pub mod GrowthLemmas
 pub mod ReadingLemmas
 pub mod FirstBadLemmas
+pub mod WordPlaceLemmas
+pub mod PlaceLemmas

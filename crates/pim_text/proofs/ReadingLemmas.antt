@@ -10,7 +10,7 @@ use Rattle.pim_base.specs.declared.limits.TheConstants.{MAX_TASKS, MAX_MUTEXES, 
 use Rattle.pim_base.specs.Spelling.{NEWLINE, version_line}
 use Rattle.pim_base.specs.Texts.{Trace, FirstBad, spelled_lines, without_empty_last, lines_of}
 use Rattle.pim_text.specs.Reading.{pieces, ReadsAs, IsVersion, empty_of}
-use Rattle.pim_text.specs.declared.kind.TextKind.{TextKind}
+use Rattle.pim_text.specs.declared.kind.Kind.{Kind}
 use Rattle.pim_text.specs.Kinds.{SpellsAs, IsOf}
 use Rattle.pim_base.proofs.Versions.{first_version, second_version}
 use Rattle.pim_text.proofs.TraceLemmas.{length_valid}
@@ -64,7 +64,7 @@ rest_shorter bytes o d none some short = search rules
 -- ---- the first bad line
 
 -- the `count` lines before `rest` are those of the text so far
-pub record Halfway (kind : TextKind) (all rest : List (List ℕ)) (t : Trace) (count : ℕ) : Type 0 where
+pub record Halfway (kind : Kind) (all rest : List (List ℕ)) (t : Trace) (count : ℕ) : Type 0 where
   pub done : List (List ℕ)
   pub whole : all ≡ done ++ rest
   pub spells : SpellsAs kind done t
@@ -75,7 +75,7 @@ take_done done rest = grind (arith, common_steps)
 
 -- the line behind a valid text that no valid text goes on with
 pub bad_next :
-    {kind : TextKind} {all left : List (List ℕ)} {t : Trace} {count : ℕ}
+    {kind : Kind} {all left : List (List ℕ)} {t : Trace} {count : ℕ}
     (added : Bool) (P : List (List ℕ) → Type 0) (line : List ℕ) (rest : List (List ℕ))
     → left ≡ line ∷ rest
     → Halfway kind all left t count
@@ -101,7 +101,7 @@ bad_next {kind} {all} {left} {t} {count} added P line rest next half refused add
 
 -- the text with that line
 pub goes_on :
-    {kind : TextKind} {all left : List (List ℕ)} {t : Trace} {count : ℕ}
+    {kind : Kind} {all left : List (List ℕ)} {t : Trace} {count : ℕ}
     (added : Bool) (u : Trace) (Q : List (List ℕ) → Type 0) (line : List ℕ) (rest : List (List ℕ))
     → left ≡ line ∷ rest
     → Halfway kind all left t count
@@ -119,14 +119,14 @@ goes_on {kind} {all} {left} {t} {count} added u Q line rest next half taken add 
 
 -- they are few
 pub count_small :
-    {kind : TextKind} {all rest : List (List ℕ)} {t : Trace} {count : ℕ}
+    {kind : Kind} {all rest : List (List ℕ)} {t : Trace} {count : ℕ}
     → Halfway kind all rest t count
     → count ≤ 1 + MAX_TASKS + MAX_MUTEXES + MAX_STEPS
 count_small {kind} {all} {rest} {t} {count} half = omega (arith, half.many, length_valid half.done t half.spells.0)
 
 -- the first line is the version
 pub begins :
-    (kind : TextKind) (all : List (List ℕ)) (first : List ℕ) (rest : List (List ℕ)) (v : ℕ) (t : Trace)
+    (kind : Kind) (all : List (List ℕ)) (first : List ℕ) (rest : List (List ℕ)) (v : ℕ) (t : Trace)
     → all ≡ first ∷ rest
     → IsVersion v × (first ≡ version_line v)
     → t ≡ empty_of v
@@ -146,7 +146,7 @@ other_version line first second (suc (suc (suc v))) is e = omega (arith, is.1)
 
 -- a line that names none is no first line
 pub no_version :
-    (kind : TextKind) (all : List (List ℕ)) (first : List ℕ) (rest : List (List ℕ))
+    (kind : Kind) (all : List (List ℕ)) (first : List ℕ) (rest : List (List ℕ))
     → all ≡ first ∷ rest
     → ReadsAs IsVersion version_line first None
     → FirstBad (IsOf kind) all 1

@@ -3,3 +3,5 @@ pub use Rattle.pim_base.specs.Scripts
 pub mod Reading
 pub mod Kinds
 pub mod Laws
+pub mod Words
+pub mod Explains

@@ -2,7 +2,7 @@
 
 /// What a text is to be.
 #[derive(Clone, Copy, Debug, PartialEq, Eq)]
-pub(crate) enum TextKind {
+pub enum Kind {
     /// A trace: a reply may be recorded for any step.
     Trace,
     /// A script, which is to be run: no reply is recorded, and each actor is a declared task.

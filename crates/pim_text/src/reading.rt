@@ -8,7 +8,7 @@ ghost use Rattle.pim_text.specs.Reading.{trace_of, ReadsAs, IsVersion};
 ghost use Rattle.pim_text.specs.Kinds.{SpellsAs, IsOf, IsTextFault};
 
 use crate::fault::TextFault;
-use crate::kind::TextKind;
+use crate::kind::Kind;
 use crate::line::read_line;
 use crate::text::Text;
 use crate::word::{cut, is};
@@ -27,7 +27,7 @@ pub fn parse(alloc: Global, bytes: &[u8]) -> Result<Text, TextFault>
         (λ text. Spells (lines_of bytes.now) (trace_of text))
         (IsTextFault IsTrace (lines_of bytes.now)) }
 {
-    read(alloc, bytes, TextKind::Trace)
+    read(alloc, bytes, Kind::Trace)
 }
 
 /// Returns the script that the bytes spell: a trace in which no reply is recorded, and in which each actor is a
@@ -42,11 +42,11 @@ pub fn parse_script(alloc: Global, bytes: &[u8]) -> Result<Text, TextFault>
         (λ text. SpellsScript (lines_of bytes.now) (trace_of text))
         (IsTextFault IsScript (lines_of bytes.now)) }
 {
-    read(alloc, bytes, TextKind::Script)
+    read(alloc, bytes, Kind::Script)
 }
 
 /// Returns the text of this kind that the bytes spell.
-fn read(alloc: Global, bytes: &[u8], kind: TextKind) -> Result<Text, TextFault>
+fn read(alloc: Global, bytes: &[u8], kind: Kind) -> Result<Text, TextFault>
     ensures { MatchResult result
         (λ text. SpellsAs kind (lines_of bytes.now) (trace_of text))
         (IsTextFault (IsOf kind) (lines_of bytes.now)) }
@@ -96,7 +96,7 @@ fn next_line(bytes: &[u8]) -> (&[u8], &[u8])
 }
 
 /// Takes one more line, and returns whether it is valid below those of the text.
-fn add_line(text: &mut Text, bytes: &[u8], kind: TextKind) -> Result<bool, AllocError>
+fn add_line(text: &mut Text, bytes: &[u8], kind: Kind) -> Result<bool, AllocError>
     ensures { IfOk result (λ added. (ls : List (List ℕ)) → SpellsAs kind ls (trace_of text.old) → MatchBool added
         (SpellsAs kind (ls ++ bytes.now ∷ []) (trace_of text.new))
         (IsOf kind (ls ++ bytes.now ∷ []) → ⊥)) }

@@ -5,7 +5,7 @@ ghost use Rattle.pim_base.specs.Spelling.{BelongsTo};
 ghost use Rattle.pim_text.specs.Reading.{trace_of, empty_of, IsAddedTo};
 ghost use Rattle.pim_text.specs.Kinds.{Allows};
 
-use crate::kind::TextKind;
+use crate::kind::Kind;
 use pim_base::{Line, MAX_MUTEXES, MAX_STEPS, MAX_TASKS, Prio, Protocol, Step, StepLine};
 use std::alloc::{AllocError, Global};
 
@@ -75,13 +75,13 @@ impl Text {
     }
 
     /// Returns whether a text of this kind may go on with the line.
-    pub(crate) fn allows(&self, line: &Line, kind: TextKind) -> bool
+    pub(crate) fn allows(&self, line: &Line, kind: Kind) -> bool
         ensures { MatchBool result
             (Allows kind (trace_of self.now) line.now)
             (Allows kind (trace_of self.now) line.now → ⊥) }
     {
         match line {
-            Line::Step(line) if kind == TextKind::Script => {
+            Line::Step(line) if kind == Kind::Script => {
                 line.recorded.is_none() && usize::from(line.step.actor.get()) <= self.bases.len()
             }
             Line::Step(_) | Line::Task { .. } | Line::Mutex { .. } => true,

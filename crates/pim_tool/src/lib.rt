@@ -22,9 +22,9 @@ mod running;
 mod scripts;
 
 pub use command_line::{Job, Request, command, parse_arguments};
-pub use pim_explain::{Kind, NewWord, Reason, explain};
 pub use pim_judge::{
     Failed, Fault, Input, Judged, MemoryReader, MemoryWriter, Output, Sink, Source, StepLine, Text,
     Trouble, Verdict, judge, judge_bytes, parse, parse_script, read_all, status,
 };
+pub use pim_text::{Kind, NewWord, Reason, explain};
 pub use running::{check, run};

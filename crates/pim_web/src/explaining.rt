@@ -4,7 +4,7 @@ ghost use Rattle.std.specs.Prelude.{◌≡◌, List, ℕ, length};
 ghost use Rattle.pim_web.specs.Judged.{copied_over};
 
 use crate::judging::copy;
-use pim_explain::{Kind, explain};
+use pim_text::{Kind, explain};
 use std::alloc::Global;
 
 /// Writes why a line of the text, a trace, is invalid, as a sentence, into the buffer, as far as it fits. Lines are

@@ -1,4 +1,5 @@
 pub mod Unknown
+pub mod InOrder
 pub mod Fronts
 pub mod Halfway
 pub mod States

@@ -1,12 +1,13 @@
 //! What a line changes.
 
-ghost use Rattle.std.specs.Prelude.{◌≡◌, ◌≤◌, false, [], length, IfOk};
+ghost use Rattle.std.specs.Prelude.{◌≡◌, ◌≤◌, ℕ, false, [], length, IfOk, Option, Some};
 ghost use Rattle.pim_base.specs.State.{IsTask};
 ghost use Rattle.pim_waits.specs.Touched.{Touches};
 ghost use Rattle.pim_world.specs.Touching.{declares};
 ghost use Rattle.pim_world.specs.After.{after, after_thread, after_mutex, with_thread_number};
 ghost use Rattle.pim_world.specs.After.{with_mutex_number, with_object, after_what, at_time};
-ghost use Rattle.pim_world.specs.After.{locked, unlocked, with_state};
+ghost use Rattle.pim_world.specs.After.{locked, unlocked, with_state, set};
+ghost use Rattle.pim_world.specs.Known.{AreInOrder};
 ghost use Rattle.pim_fact_lines.specs.declared.line.Line.TheVariants as lines;
 ghost use Rattle.pim_world.specs.Held.{world_of, touched_of};
 
@@ -116,10 +117,12 @@ impl World {
         if self.thread_numbers.push(number).is_err() {
             return Err(AllocError);
         }
-        match self.threads.insert(number.0, place) {
-            Ok(_) => Ok(()),
-            Err(_) => Err(AllocError),
+        let last = last_in_order(self.threads_in_order, number.0 as usize, place.0);
+        if self.threads.insert(number.0, place).is_err() {
+            return Err(AllocError);
         }
+        self.threads_in_order = last;
+        Ok(())
     }
 
     fn add_mutex(
@@ -149,10 +152,12 @@ impl World {
         if self.mutex_numbers.push(number).is_err() {
             return Err(AllocError);
         }
-        match self.mutexes.insert(number.0, place) {
-            Ok(_) => Ok(()),
-            Err(_) => Err(AllocError),
+        let last = last_in_order(self.mutexes_in_order, number.0 as usize, place.0);
+        if self.mutexes.insert(number.0, place).is_err() {
+            return Err(AllocError);
         }
+        self.mutexes_in_order = last;
+        Ok(())
     }
 
     fn add_object(&mut self, number: ObjectNo) -> Result<(), AllocError>
@@ -255,4 +260,18 @@ impl World {
         }
         Ok(())
     }
+}
+
+/// Returns up to which number the places are the numbers, after a number got a place.
+fn last_in_order(last: usize, number: usize, place: usize) -> usize
+    ensures { (places : ℕ → Option ℕ)
+        → AreInOrder last places → AreInOrder result (set number (Some place) places) }
+{
+    if number <= last {
+        return 0;
+    }
+    if number == place && place - 1 == last {
+        return place;
+    }
+    last
 }

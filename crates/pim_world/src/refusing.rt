@@ -27,6 +27,8 @@ impl World {
         World {
             threads: HashMap::new(alloc),
             mutexes: HashMap::new(alloc),
+            threads_in_order: 0,
+            mutexes_in_order: 0,
             objects: HashMap::new(alloc),
             thread_numbers: Vec::new(alloc),
             mutex_numbers: Vec::new(alloc),
@@ -45,6 +47,10 @@ impl World {
         ensures place { result ≡ (world_of self.now).thread number }
         ensures known { IfSome result (IsTask (world_of self.now).state) }
     {
+        let place = number.0 as usize;
+        if 1 <= place && place <= self.threads_in_order {
+            return Some(ThreadPlace(place));
+        }
         self.threads.get(&number.0).copied()
     }
 
@@ -53,6 +59,10 @@ impl World {
         ensures place { result ≡ (world_of self.now).mutex number }
         ensures known { IfSome result (IsMutex (world_of self.now).state) }
     {
+        let place = number.0 as usize;
+        if 1 <= place && place <= self.mutexes_in_order {
+            return Some(MutexPlace(place));
+        }
         self.mutexes.get(&number.0).copied()
     }
 

@@ -1,11 +1,12 @@
 //! What holds of a waiting thread.
 
-ghost use Rattle.std.specs.Prelude.{◌≡◌, ◌↔◌, IsTrue, unwrap_or};
+ghost use Rattle.std.specs.Prelude.{◌≡◌, ◌↔◌, IsTrue, Some, unwrap_or};
+ghost use Rattle.std.specs.Option.{option_map};
 ghost use Rattle.pim_world.specs.Held.{world_of, kernel_of};
-ghost use Rattle.pim_world.specs.Standing.{run_level, is_ready_off, in_place_of, could_run};
-ghost use Rattle.pim_world.specs.Standing.{inverted_by, is_lower, meanwhile_of};
+ghost use Rattle.pim_world.specs.Standing.{run_level, is_ready_off, in_place_of, meanwhile_of};
+ghost use Rattle.pim_world.specs.Standing.{mutex_number, inverted_key, meanwhile_key, standing};
 ghost use Rattle.pim_waits.specs.Waiting.{blame};
-ghost use Rattle.pim_world.specs.Standing.{mutex_number, standing};
+ghost use Rattle.pim_waits.specs.Waiting as waiting;
 
 use crate::kernel::{KernelEvents, Off};
 use crate::world::World;
@@ -32,15 +33,14 @@ impl Standing {
     pub fn of(world: &World, thread: ThreadPlace) -> Standing
         ensures { result ≡ standing (world_of world.now) thread }
     {
-        let lower = is_lower(world, thread);
-        let inverted = inverted_of(world, thread);
-        let stalled = stalled_of(world, thread);
-        let meanwhile = meanwhile_by(world, thread);
-        Standing {
-            lower,
-            inverted,
-            stalled,
-            meanwhile,
+        match world.waits().runner(thread) {
+            Some(runner) => with_runner(world, thread, runner),
+            None => Standing {
+                lower: false,
+                inverted: None,
+                stalled: None,
+                meanwhile: None,
+            },
         }
     }
 
@@ -49,6 +49,39 @@ impl Standing {
         ensures { IsTrue result ↔ (self.now ≡ other.now) }
     {
         self == other
+    }
+}
+
+/// Returns what holds of a thread with this runner.
+fn with_runner(world: &World, thread: ThreadPlace, runner: ThreadPlace) -> Standing
+    requires { waiting.runner (world_of world.now).state thread ≡ Some runner }
+    ensures { result ≡ standing (world_of world.now) thread }
+{
+    if let Some(object) = world.blocked(runner) {
+        return Standing {
+            lower: false,
+            inverted: None,
+            stalled: Some((object.0, world.thread_number(runner), 0)),
+            meanwhile: None,
+        };
+    }
+    let gets = world.gets(thread);
+    let lower = world.level(runner) < gets;
+    if world.gets(runner) < gets {
+        let inverted = inverted_key(world, thread, runner);
+        let meanwhile = meanwhile_by(world, thread, runner);
+        return Standing {
+            lower,
+            inverted: Some(inverted),
+            stalled: None,
+            meanwhile,
+        };
+    }
+    Standing {
+        lower,
+        inverted: None,
+        stalled: None,
+        meanwhile: None,
     }
 }
 
@@ -85,36 +118,6 @@ fn in_place_of(kernel: &KernelEvents, runner: ThreadPlace) -> Option<ThreadPlace
     }
 }
 
-/// Returns whether a thread isn't blocked at an object.
-fn could_run(world: &World, thread: ThreadPlace) -> bool
-    ensures { result ≡ could_run (world_of world.now) thread }
-{
-    world.blocked(thread).is_none()
-}
-
-/// Returns the runner for which a thread is inverted.
-fn inverted_by(world: &World, thread: ThreadPlace) -> Option<ThreadPlace>
-    ensures { result ≡ inverted_by (world_of world.now) thread }
-{
-    let runner = world.waits().runner(thread)?;
-    if could_run(world, runner) && world.gets(runner) < world.gets(thread) {
-        Some(runner)
-    } else {
-        None
-    }
-}
-
-/// Returns whether a thread has a runner that could run, and whose level is below what the thread
-/// gets.
-fn is_lower(world: &World, thread: ThreadPlace) -> bool
-    ensures { result ≡ is_lower (world_of world.now) thread }
-{
-    match world.waits().runner(thread) {
-        Some(runner) => could_run(world, runner) && world.level(runner) < world.gets(thread),
-        None => false,
-    }
-}
-
 /// Returns the thread that runs in place of the runner of an inverted thread.
 fn meanwhile_of(world: &World, thread: ThreadPlace, runner: ThreadPlace) -> Option<ThreadPlace>
     ensures { result ≡ meanwhile_of (world_of world.now) thread runner }
@@ -138,32 +141,22 @@ fn blamed_number(world: &World, thread: ThreadPlace) -> u64
     }
 }
 
-/// Returns the blamed mutex, the runner, and what that gets, if a thread is inverted.
-fn inverted_of(world: &World, thread: ThreadPlace) -> Option<Key>
-    ensures { result ≡ (standing (world_of world.now) thread).inverted }
+/// Returns the blamed mutex, the runner, and what that gets.
+fn inverted_key(world: &World, thread: ThreadPlace, runner: ThreadPlace) -> Key
+    ensures { result ≡ inverted_key (world_of world.now) thread runner }
 {
-    let runner = inverted_by(world, thread)?;
-    Some((
+    (
         blamed_number(world, thread),
         world.thread_number(runner),
         world.gets(runner),
-    ))
-}
-
-/// Returns the object at which the runner of a thread is blocked, and the runner.
-fn stalled_of(world: &World, thread: ThreadPlace) -> Option<Key>
-    ensures { result ≡ (standing (world_of world.now) thread).stalled }
-{
-    let runner = world.waits().runner(thread)?;
-    let object = world.blocked(runner)?;
-    Some((object.0, world.thread_number(runner), 0))
+    )
 }
 
 /// Returns which thread runs in place of the runner of an inverted thread, and at which level.
-fn meanwhile_by(world: &World, thread: ThreadPlace) -> Option<Key>
-    ensures { result ≡ (standing (world_of world.now) thread).meanwhile }
+fn meanwhile_by(world: &World, thread: ThreadPlace, runner: ThreadPlace) -> Option<Key>
+    ensures { let w = world_of world.now in
+        result ≡ option_map (meanwhile_key w) (meanwhile_of w thread runner) }
 {
-    let runner = inverted_by(world, thread)?;
     let other = meanwhile_of(world, thread, runner)?;
     Some((world.thread_number(other), run_level(world, other), 0))
 }

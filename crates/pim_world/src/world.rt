@@ -2,7 +2,7 @@
 
 ghost use Rattle.std.specs.Prelude.{nat_eq};
 ghost use Rattle.std.specs.HashMap.{get};
-ghost use Rattle.pim_world.specs.Known.{AreTasks, AreMutexes};
+ghost use Rattle.pim_world.specs.Known.{AreTasks, AreMutexes, AreInOrder};
 
 use crate::kernel::KernelEvents;
 use pim_fact_lines::{MutexNo, ObjectNo, ThreadNo};
@@ -18,6 +18,9 @@ pub struct World {
     /// By number the places of threads and mutexes.
     pub(crate) threads: HashMap<u32, ThreadPlace>,
     pub(crate) mutexes: HashMap<u64, MutexPlace>,
+    /// The threads and mutexes from 1 to these numbers have their numbers as places.
+    pub(crate) threads_in_order: usize,
+    pub(crate) mutexes_in_order: usize,
     /// The numbers of the objects.
     pub(crate) objects: HashMap<u64, ()>,
     /// The numbers of threads and mutexes, by place.
@@ -36,4 +39,6 @@ pub struct World {
     pub(crate) touched: Vec<ThreadPlace>,
     ghost threads_known: { AreTasks waits (get nat_eq threads) },
     ghost mutexes_known: { AreMutexes waits (get nat_eq mutexes) },
+    ghost threads_ordered: { AreInOrder threads_in_order (get nat_eq threads) },
+    ghost mutexes_ordered: { AreInOrder mutexes_in_order (get nat_eq mutexes) },
 }

@@ -2,7 +2,7 @@ use Rattle.std.proofs.Common.{ap, rules}
 use Rattle.std.proofs.lemmas.Result.{err_from_is_err_and}
 use Rattle.pim_base.specs.Recordings.{IsRunOf}
 use Rattle.pim_text.specs.Reading.{trace_of}
-use Rattle.pim_runs.specs.Printed.{verdict_line}
+use Rattle.pim_judge.specs.Printed.{verdict_line}
 use Rattle.pim_tool.specs.Running.{IsEndOfReport, call}
 use Rattle.pim_tool.proofs.RunningLemmas.{few_entries, run_verdict, put_ok, stopped_err, verdict_ok}
 use Rattle.pim_tool.proofs.running.check.Goals as goal

@@ -1,5 +1,0 @@
-use Rattle.pim_explain.proofs.PlaceLemmas.{Reached}
-use Rattle.pim_explain.proofs.place.place_of.Given as goal
-
-abbrev pub invariant-loop-passed : goal.invariant-loop-passed
-invariant-loop-passed l = Reached l.text l.rest l._passed

@@ -1,7 +1,0 @@
-use Rattle.std.proofs.Common.{eqb}
-use Rattle.pim_text.proofs.SeparatorLemmas.{NoneBelow}
-use Rattle.pim_explain.proofs.word.cut.Given as goal
-
--- no separator came so far
-abbrev pub invariant-loop-place : goal.invariant-loop-place
-invariant-loop-place l = NoneBelow (λ b. eqb b l.separator) l.bytes l.place

@@ -1,2 +1,0 @@
-pub mod TraceLineLemmas
-pub mod EntryLemmas

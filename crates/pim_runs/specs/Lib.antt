@@ -1,2 +1,0 @@
-pub use Rattle.pim_base.specs.Recordings
-pub mod Printed
