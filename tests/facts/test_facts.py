@@ -296,7 +296,7 @@ class Facts(Case):
                 ("--spans --from -1", b"-1"), ("--spans --to 18446744073709551616", b"--to"),
                 ("--from 5", b"--spans"), ("--to 5", b"--spans"), ("--spans --from 6 --to 5", b"--from is after --to")):
             status, out, err = answer([proved(), *words.split()], b"facts 1\n")
-            got = status, out, option in err.splitlines()[0] if err else None
+            got = status, out, option in err.partition(b"\n\n")[0]
             self.equal(f"pim-findings {words}", got, (2, b"", True))
         text = b"facts 1\nthread 1 30 high\n5 end\n"
         for words in ("--from 5", "--from 3 --to 3", f"--from {2**64 - 1}"):
