@@ -13,7 +13,7 @@ draws it as SVG.
 
 examples:
   bench/growth.py                             what docs/SPEED.md plots; takes minutes
-  bench/growth.py --docs                      and write the plot and a table of ratios there
+  bench/growth.py --docs                      and write the plot there
   bench/growth.py --time --plot /tmp/t.svg    in time, on an idle machine
   bench/growth.py --sizes 4 8 --steps 64      a trial that takes seconds
 """
@@ -33,11 +33,10 @@ PANELS = [
     Panel("wide", "wide: a single queue", "waiters in the queue", lambda n: n + 1),
     Panel("chain", "chain: each waits for the one before", "tasks in the chain", lambda n: n),
 ]
+# A queue has a waiter less than there are tasks.
 SIZES = [4, 16, 64, 128, 192, 256]
 STEPS, STEPS_TIMED = 8192, 32768
 FIGURE = runs.ROOT / "docs/growth.svg"
-# What the table of docs/SPEED.md has. A queue has a waiter less than there are tasks.
-HEAD = "pim in parts of C++"
 
 
 def costs(commands, panel, size, folder, options):
@@ -77,7 +76,7 @@ def ratios(curves):
 def main():
     options = arguments()
     unit = "nanoseconds" if options.time else "instructions"
-    shares, panels = [], []
+    panels = []
     with tempfile.TemporaryDirectory() as folder:
         ours = runs.program(options.program) if options.program else runs.own_program()
         commands = [[ours], [runs.judge(folder)]]
@@ -88,14 +87,11 @@ def main():
             if options.only and panel.kind not in options.only:
                 continue
             sizes, curves = grown(commands, panel, folder, options)
-            shares.append([f"{panel.title}; {panel.across}", *ratios(curves)])
             panels.append((panel.title, panel.across, f"{unit} a step", sizes, curves))
             print("\n".join(rows(panel, sizes, curves)), flush=True)
     drawn = plot.figure("What a step takes", ["pim, proved", "plain C++"], panels)
     if options.docs:
         FIGURE.write_text(drawn)
-        head = [HEAD, *map(str, options.sizes)]
-        runs.publish("bench/growth.py", told, runs.table(head, shares))
     if options.plot:
         pathlib.Path(options.plot).write_text(drawn)
 
@@ -110,6 +106,7 @@ def arguments():
     parser.add_argument("--time", action="store_true", help="time in place of instructions")
     parser.add_argument("--repeat", type=int, default=7, help="runs of each program (7)")
     parser.add_argument("--plot", metavar="FILE", help="write the plot to FILE")
+    parser.add_argument("--docs", action="store_true", help="write the plot to docs/growth.svg")
     options = runs.within_limits(parser)
     options.steps = options.steps or (STEPS_TIMED if options.time else STEPS)
     if not all(2 <= size <= runs.MOST_TASKS for size in options.sizes):

@@ -74,6 +74,7 @@ def main():
 def arguments():
     """Returns the options of the command line."""
     parser = runs.parser(__doc__, list(TEXTS), "the repository's own")
+    parser.add_argument("--docs", action="store_true", help="also write the table into docs/SPEED.md")
     beside = "the program to compare with, in place of the judge in C++"
     parser.add_argument("--beside", metavar="PROGRAM", help=beside)
     parser.add_argument("--repeat", type=int, default=7, help="runs of each program (7)")

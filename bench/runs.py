@@ -46,14 +46,13 @@ def parser(doc, names, program):
     made.add_argument("program", nargs="?", metavar="PROGRAM", help=measured)
     only = f"one of {', '.join(names)}; may be repeated"
     made.add_argument("--only", metavar="NAME", choices=names, action="append", help=only)
-    made.add_argument("--docs", action="store_true", help="also write the result into docs/")
     return made
 
 
 def within_limits(parser, **least):
     """Returns the options of the command line, or gives up if a number is out of its limits."""
     options = parser.parse_args()
-    if options.docs and options.only:
+    if getattr(options, "docs", False) and options.only:
         parser.error("--docs needs all traces, so it can't be used with --only")
     limits = {"tasks": (2, MOST_TASKS), "steps": (1, MOST_STEPS), "repeat": (1, 10**6)}
     for name, (low, high) in limits.items():
@@ -242,12 +241,12 @@ def table(head, rows):
     return [line(head), f"|{dashes}|", *map(line, rows)]
 
 
-def publish(part, told, lines, page=PAGE):
+def publish(part, told, lines):
     """Replaces a part of a page with these sentences and lines."""
     sentences = textwrap.fill(". ".join([*told, ""]).rstrip(), 120)
     begin, end = f"<!-- by {part} -->\n", "<!-- end -->\n"
-    before, found, rest = page.read_text().partition(begin)
+    before, found, rest = PAGE.read_text().partition(begin)
     if not found:
-        give_up(2, f"{page} has no line {begin!r}")
+        give_up(2, f"{PAGE} has no line {begin!r}")
     after = rest.partition(end)[2]
-    page.write_text("\n".join([before + begin, sentences, "", *lines, "", end + after]))
+    PAGE.write_text("\n".join([before + begin, sentences, "", *lines, "", end + after]))

@@ -271,7 +271,7 @@ enum pim_reply {
     PIM_WITHDRAWN = 6,  /* the target waits no more: it is to run on, without the mutex */
     PIM_SET = 7,        /* the target has the new base priority,
                          * or the mutex the new ceiling or protocol */
-    PIM_REFUSED = 8,    /* nothing changed at all; `refusal` says why */
+    PIM_REFUSED = 8,    /* tasks and mutexes are as they were; `refusal` says why */
     PIM_KEPT = 9        /* the task locked the mutex more often, and owns it still */
 };
 

@@ -16,9 +16,9 @@ PAGE, CRATES = ROOT / "web/dist/index.html", ROOT / "launcher/crates"
 COMMANDS = ("record/out/pim-facts",)
 # What is copied as it is.
 COPIED = """
-README.md CHANGELOG.md SECURITY.md VERSION docs examples web/README.md web/inversion.svg
+README.md CHANGELOG.md SECURITY.md VERSION docs examples web/inversion.svg
 record/pim-record record/pim-log record/show record/from-lttng record/kernel_text.py record/places_text.py
-record/valgrind.supp record/FORMAT.md record/FACTS-OF-LOGS.md record/INSIDE.md
+record/valgrind.supp record/FORMAT.md record/INSIDE.md
 report
 conform/pim-conform conform/compare.py conform/fuzz.py conform/walk.py
 conform/set conform/performed

@@ -27,7 +27,7 @@ that is.
 
   -f, --facts FILE     read a text of facts in place of a recording
   -H, --html FILE      write a page too, which opens from the disk and needs no network
-  -j, --json           print JSON in place of the text; docs/REPORT.md has its keys
+  -j, --json           print JSON in place of the text; docs/JSON.md has its keys
   -a, --all            print all findings of each kind, and keep all facts in the page
   -n, --top N          print at most N findings of each kind: 10 if it isn't given
   -t, --thread NAME    show only what a thread has a part in. A number will do, too

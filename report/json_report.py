@@ -1,4 +1,4 @@
-"""A report as JSON: all rows with names and places, and the findings, as docs/REPORT.md says."""
+"""A report as JSON: all rows with names and places, and the findings, as docs/JSON.md says."""
 import json
 
 from verdict import Verdict

@@ -1,4 +1,4 @@
-"""A trace of a recording, which pim judges before it is kept: docs/REPORT.md, 'The trace'."""
+"""A trace of a recording, which pim judges before it is kept: docs/TEXT.md."""
 import pathlib
 import textwrap
 

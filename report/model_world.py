@@ -1,4 +1,4 @@
-"""The world of some facts as a lock manager has it: docs/REPORT.md says how."""
+"""The world of some facts as a lock manager has it: docs/TEXT.md, 'A trace of a recording'."""
 from bisect import bisect_left
 
 from facts_world import FactsWorld

@@ -1,3 +1,4 @@
+/* Reads the kernel's events: FORMAT.md, 'The kernel's events'. */
 #define _GNU_SOURCE
 #include "events.h"
 

@@ -1,4 +1,4 @@
-/* Makes one log of several: FACTS-OF-LOGS.md, 'Several programs'. Each record has another number,
+/* Makes one log of several: FORMAT.md, 'Several programs'. Each record has another number,
  * and is where it was in its chunk. What each log counts by itself has other numbers, too: threads,
  * processes, places. */
 #define _GNU_SOURCE

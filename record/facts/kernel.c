@@ -1,3 +1,4 @@
+/* What the kernel's events say of threads and waits: FORMAT.md, 'What the kernel's events add'. */
 #define _GNU_SOURCE
 #include "kernel.h"
 

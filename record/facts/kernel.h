@@ -1,4 +1,4 @@
-/* What the kernel did meanwhile, by LOG.kernel: FORMAT.md and FACTS-OF-LOGS.md. */
+/* What the kernel did meanwhile, by LOG.kernel: FORMAT.md. */
 #ifndef PIM_FACTS_KERNEL_H
 #define PIM_FACTS_KERNEL_H
 

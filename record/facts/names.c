@@ -1,3 +1,4 @@
+/* The names and places of mutexes and objects: FORMAT.md, 'Threads, mutexes, levels'. */
 #define _GNU_SOURCE
 #include "names.h"
 

@@ -1,3 +1,4 @@
+/* The order of the lines, and what is added: FORMAT.md, 'Owners that come late or go early'. */
 #define _GNU_SOURCE
 #include "order.h"
 

@@ -1,4 +1,4 @@
-/* The waits for what isn't a mutex: FACTS-OF-LOGS.md. */
+/* The waits for what isn't a mutex: FORMAT.md. */
 #define _GNU_SOURCE
 #include "told.h"
 

@@ -1,4 +1,4 @@
-/* The requests that a log lacks: FACTS-OF-LOGS.md. */
+/* The requests that a log lacks: FORMAT.md. */
 #define _GNU_SOURCE
 #include "told.h"
 

@@ -1,4 +1,4 @@
-/* Goes through the records, and says what happened at each: the table of FACTS-OF-LOGS.md. */
+/* Goes through the records, and says what happened at each: the table of FORMAT.md. */
 #define _GNU_SOURCE
 #include "told.h"
 

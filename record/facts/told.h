@@ -1,4 +1,4 @@
-/* What happened to the threads of a log, by FACTS-OF-LOGS.md. */
+/* What happened to the threads of a log, by FORMAT.md. */
 #ifndef PIM_FACTS_TOLD_H
 #define PIM_FACTS_TOLD_H
 

@@ -82,10 +82,10 @@ def missing_names(files, contracts, text):
 
 
 class Pages(Case):
-    def test_the_lines_of_LIBRARY_are_those_of_the_tests(self):
+    def test_the_lines_of_CONTRACTS_are_those_of_the_tests(self):
         source = (ROOT / "crates/pim_tool_tests/src/library.rt").read_text()
         lines = source[source.index("\nghost use ") + 1:source.index("\n#[cfg(test)]")].rstrip()
-        shown = re.search(r"```rust\n(.*?)\n```", (ROOT / "docs/LIBRARY.md").read_text(), re.S)
+        shown = re.search(r"```rust\n(.*?)\n```", (ROOT / "docs/CONTRACTS.md").read_text(), re.S)
         self.assertEqual(shown and shown[1], lines)
 
     def test_examples_are_shown_as_they_are(self):

@@ -288,3 +288,17 @@ class Facts(Case):
         status, out, err = answer([*made, "--rows"])
         got = status, out, b"--rows" in err
         self.equal("an option that there isn't", got, (2, b"", True))
+
+    def test_windows_that_cannot_be(self):
+        """A window that can't be one has a fault that names its option, and nothing is written."""
+        for words, option in (
+                ("--spans --from", b"--from"), ("--spans --to", b"--to"), ("--spans --from 5x", b"--from"),
+                ("--spans --from -1", b"-1"), ("--spans --to 18446744073709551616", b"--to"),
+                ("--from 5", b"--spans"), ("--to 5", b"--spans"), ("--spans --from 6 --to 5", b"--from is after --to")):
+            status, out, err = answer([proved(), *words.split()], b"facts 1\n")
+            got = status, out, option in err.partition(b"\n\n")[0]
+            self.equal(f"pim-findings {words}", got, (2, b"", True))
+        text = b"facts 1\nthread 1 30 high\n5 end\n"
+        for words in ("--from 5", "--from 3 --to 3", f"--from {2**64 - 1}"):
+            got = answer([proved(), "--spans", *words.split()], text)
+            self.check(f"a window without spans: {words}", difference(got, (0, b"", b"")))

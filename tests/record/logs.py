@@ -1,4 +1,4 @@
-"""Logs by record/FORMAT.md, for tests: of rows, and of a text with a line for each record. suite/recordings/README.md
+"""Logs by record/FORMAT.md, for tests: of rows, and of a text with a line for each record. suite/README.md
 says what such a text has."""
 import importlib.machinery
 import importlib.util

@@ -1065,7 +1065,7 @@ class KernelFiles(Checks):
         """Compiles a program with parts of the recorder. Returns the lines that it prints, or None after a failed check."""
         made = pathlib.Path(folder, source)
         flags = ["-std=c11", "-Wall", "-Wextra", "-Werror", "-fsanitize=address,undefined"]
-        sources = [ROOT / f"tests/{source}.c", *(RECORD / f"kernel/{part}.c" for part in parts)]
+        sources = [ROOT / f"tests/record/{source}.c", *(RECORD / f"kernel/{part}.c" for part in parts)]
         done = run("cc", *flags, *sources, "-o", made)
         if not done.returncode:
             done = run(made, *arguments, env={"ASAN_OPTIONS": "detect_leaks=0"})

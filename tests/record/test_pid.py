@@ -106,7 +106,7 @@ def files_of(folder):
     return {path.name: path.read_text() for path in pathlib.Path(folder).glob("none*")}
 
 
-class Attached(Case):
+class OfAProgramThatRuns(Case):
     def setUp(self):
         self.tracefs = Tracefs()
         self.addCleanup(self.tracefs.end)

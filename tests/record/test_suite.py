@@ -1,5 +1,5 @@
 """suite/recordings: logs and kernel's events by hand, and what pim-facts writes of them.
-suite/recordings/README.md says what the files are.
+suite/README.md says what the files are.
 """
 import importlib
 import pathlib
@@ -165,7 +165,7 @@ class Recorded:
 def stored():
     """Returns a case for each name in suite/recordings, and for each change of a damaged one."""
     cases = []
-    for name in sorted({path.name.split(".")[0] for path in SUITE.glob("*.*")} - {"README"}):
+    for name in sorted({path.name.split(".")[0] for path in SUITE.glob("*.*")}):
         parts = files_of(SUITE, name)
         others = {end: parts.pop(end) for end in [*parts] if end[:1].isdigit()}
         others = {end.removesuffix(".log.txt"): read_text(text) if end.endswith(".log.txt") else text.encode()

@@ -45,7 +45,7 @@ mutex 2 inherit b
 """
 HOSTILE = b"facts 1\nthread 1 9 <!--<script>\nmutex 1 none </script>\n0 1 granted 1 <img>\n"
 TIME = r"([\d.,]+ (?:s|ms|us|ns))"
-PAGE = (ROOT / "docs/REPORT.md").read_text()
+PAGE = (ROOT / "docs/JSON.md").read_text()
 
 
 def keys_in(value):
@@ -61,7 +61,7 @@ def keys_in(value):
 
 def documented():
     """Returns the keys that the tables of the page have."""
-    part = PAGE.partition("\n## The JSON\n")[2].partition("\n## ")[0]
+    part = PAGE.partition("\n## The keys\n")[2].partition("\n## ")[0]
     cells = re.findall(r"(?m)^\| (`.*?) \| (.*) \|$", part)
     listed = {key for cell, _ in cells for key in re.findall(r"`(\w+)`", cell)}
     inner = {key for _, text in cells for key in re.findall(r"`(\w+)`", text)}

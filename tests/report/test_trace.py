@@ -248,7 +248,7 @@ class Traces(Case):
             got = tuple(trace.text().splitlines())
             why = difference(got, ("pim 2", *filter(None, wanted.split(";"))))
             self.check(f"the trace of {name}", why or judged(own_program(), trace)[1])
-        page = (ROOT / "docs/REPORT.md").read_text()
+        page = (ROOT / "docs/TEXT.md").read_text()
         facts, wanted = (re.sub(r"(?m)^    ", "", one) for one in re.findall(
             r"(?m)^(    (?:facts 1|pim 2)\n(?:    .*\n)+)", page))
         got = trace_of(*read(facts.encode()), *ALWAYS).text()

@@ -10,9 +10,9 @@ pub(crate) struct Arguments<'a> {
     pub(crate) file: Option<&'a str>,
     /// Whether to write spans in place of rows.
     pub(crate) spans: bool,
-    /// The window of time, if it isn't all of it.
-    pub(crate) from: Option<&'a str>,
-    pub(crate) to: Option<&'a str>,
+    /// Where the window of time begins and ends, if that is given.
+    pub(crate) from: Option<u64>,
+    pub(crate) to: Option<u64>,
 }
 
 /// The text below the options in `--help`.
@@ -69,8 +69,8 @@ pub(crate) fn parse_arguments<'a>(
     Ok(Arguments {
         file: matches.get_str("file"),
         spans: matches.get_flag("spans"),
-        from: matches.get_str("from"),
-        to: matches.get_str("to"),
+        from: matches.get_one("from"),
+        to: matches.get_one("to"),
     })
 }
 
@@ -87,13 +87,15 @@ fn pim_findings<'a>(alloc: Global) -> Result<Command<'a>, AllocError> {
     let from = Arg::new(alloc, "from")
         .long("from")
         .value_name("TIME")
-        .help("Begin spans at this time, in nanoseconds")
-        .action(ArgAction::Set);
+        .help("Cut off what is before this time, in nanoseconds; with --spans")
+        .value_parser(clap::value_parser!(u64))
+        .requires_arg("spans")?;
     let to = Arg::new(alloc, "to")
         .long("to")
         .value_name("TIME")
-        .help("End spans at this time, in nanoseconds")
-        .action(ArgAction::Set);
+        .help("Cut off what is after this time, at least that of --from; with --spans")
+        .value_parser(clap::value_parser!(u64))
+        .requires_arg("spans")?;
     Command::new(alloc, "pim-findings")
         .about(
             "Say what follows from facts: how long threads waited, \

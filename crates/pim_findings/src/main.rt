@@ -2,8 +2,8 @@
 //!
 //! It passes standard input or a file, and standard output, to `print_findings` or `print_spans`,
 //! which read the text and write its rows or its spans. Their contracts say what is written:
-//! `pim_rows` and `pim_spans` find it, and all of that is proved. `main` has only what no contract can say: the streams, the texts and the
-//! process.
+//! `pim_rows` and `pim_spans` find it, and all of that is proved. `main` has only what no contract
+//! can say: the streams, the texts and the process.
 #![tactic(auto)]
 
 mod command_line;
@@ -65,32 +65,19 @@ fn work(rt: &HostRuntime) -> io::Result<u8> {
 
 /// Writes what the arguments ask for. Returns the exit status.
 fn answer(rt: &HostRuntime, arguments: &Arguments<'_>) -> io::Result<u8> {
-    let Some(window) = window_of(arguments) else {
-        return report(rt, "a time is a number of nanoseconds below 2^64");
+    let window = Window {
+        from: arguments.from.unwrap_or(0),
+        until: arguments.to.unwrap_or(u64::MAX),
     };
+    if window.until < window.from {
+        return report(rt, "--from is after --to");
+    }
     match arguments.file {
         None => print(rt, &mut Input::new(rt.reader()), arguments.spans, window),
         Some(path) => match fs::open(rt, path) {
             Ok(file) => print(rt, &mut Input::new(file), arguments.spans, window),
             Err(_) => report(rt, format_args!("{path}: it can't be read")),
         },
-    }
-}
-
-/// Returns the window of time that the arguments name, or `None` if one of the times isn't a
-/// number.
-fn window_of(arguments: &Arguments<'_>) -> Option<Window> {
-    Some(Window {
-        from: time_of(arguments.from, 0)?,
-        until: time_of(arguments.to, u64::MAX)?,
-    })
-}
-
-/// Returns the time that an argument says, or another one if it isn't given.
-fn time_of(argument: Option<&str>, otherwise: u64) -> Option<u64> {
-    match argument {
-        Some(word) => word.parse().ok(),
-        None => Some(otherwise),
     }
 }
 

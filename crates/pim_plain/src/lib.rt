@@ -2,8 +2,8 @@
 //!
 //! Its type is [`PlainManager`]: what is declared, owned and waited for. It stores no priority and no queue, and
 //! computes each chain, priority, queue and reason from scratch. So a reader can compare a fast manager, or a log,
-//! with code that does nothing but what the definitions say. One step costs some tasks * tasks * mutexes looks. Its
-//! tests stand in pim_agreement, which calls each of its public functions.
+//! with code that does nothing but what the definitions say. One step costs some tasks * tasks * mutexes looks.
+//! pim_soak judges traces with it, which `tests/suite` compares with the reports of `pim`.
 //!
 //! ```
 //! let mut plain = PlainManager::new(alloc, &[low, high], &[Protocol::Inherit], 1)?;

@@ -11,10 +11,9 @@ use Rattle.pim_base.proofs.Places.{nth-get_or}
 use Rattle.pim_rows.specs.Moments.{Moment}
 use Rattle.pim_rows.specs.Begun.{WaitStart}
 use Rattle.pim_rows.specs.Tallies.{Tally, total}
-use Rattle.pim_rows.specs.Words.{Row, row_text}
-use Rattle.pim_rows.specs.Rows.{wait_row, wait_rows, wait_with, inverted_row, stalled_row}
-use Rattle.pim_rows.specs.Rows.{meanwhile_row, text_of}
-use Rattle.pim_rows.specs.Puts.{Puts}
+use Rattle.pim_rows.specs.Rows.{Row, row_text, wait_row, wait_rows, wait_with, inverted_row}
+use Rattle.pim_rows.specs.Rows.{stalled_row, meanwhile_row, text_of}
+use Rattle.pim_rows.specs.Ending.{Puts}
 
 -- what was kept at a number
 pub taken :

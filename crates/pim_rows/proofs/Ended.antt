@@ -9,7 +9,7 @@ use Rattle.pim_base.proofs.Greatest.{numbers-more}
 use Rattle.pim_fact_lines.specs.declared.line.Line.{Line}
 use Rattle.pim_world.specs.After.{after}
 use Rattle.pim_rows.specs.Moments.{Moment, now, began, followed_by}
-use Rattle.pim_rows.specs.Episodes.{is_owned}
+use Rattle.pim_rows.specs.Begun.{is_owned}
 use Rattle.pim_rows.specs.Found.{mutex_of, put_section, end_section, sections}
 
 -- a line that names a mutex ends its section if that was owned and isn't

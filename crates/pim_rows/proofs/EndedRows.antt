@@ -15,10 +15,9 @@ use Rattle.pim_world.specs.Following.{may_happen}
 use Rattle.pim_rows.specs.Moments.{Moment, now, number, clock, began, followed_by}
 use Rattle.pim_world.specs.Standing.{waits}
 use Rattle.pim_rows.specs.Tallies.{Tally, tally, total}
-use Rattle.pim_rows.specs.Episodes.{is_blocked}
-use Rattle.pim_rows.specs.Begun.{WaitStart, wait_start, Block, block}
+use Rattle.pim_rows.specs.Begun.{is_blocked, WaitStart, wait_start, Block, block}
 use Rattle.pim_rows.specs.Rows.{wait_rows, blocked_row, granted, resumed, text_of}
-use Rattle.pim_rows.specs.Starts.{AreStarts}
+use Rattle.pim_rows.specs.Kept.{AreStarts}
 use Rattle.pim_rows.specs.Ending.{ended_tally, AreCounts, ArePut}
 use Rattle.pim_rows.specs.declared.ended_rows.EndedWaits.{EndedWaits}
 use Rattle.pim_rows.proofs.Appended.{count-wait_rows}

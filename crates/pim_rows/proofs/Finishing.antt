@@ -7,11 +7,11 @@ use Rattle.std.proofs.lemmas.List.{append-nil}
 use Rattle.std.proofs.lemmas.List.Sums.{sum_by-append}
 use Rattle.pim_rows.specs.Moments.{Moment, now, number, clock}
 use Rattle.pim_rows.specs.Found.{all_sections, nests}
-use Rattle.pim_rows.specs.Words.{Row, row, row_text}
+use Rattle.pim_rows.specs.Rows.{Row, row, row_text, text_of, rows_of, all_rows, ended_rows}
+use Rattle.pim_rows.specs.Rows.{lasting_rows, lasting_wait, lasting_block, lasting_run, by_number}
+use Rattle.pim_rows.specs.Rows.{section_row, nests_row, deadlock_rows, end_row, wait_with}
+use Rattle.pim_rows.specs.Rows.{status_of, was_inverted}
 use Rattle.pim_rows.specs.declared.row.Word.TheVariants as words
-use Rattle.pim_rows.specs.Rows.{text_of, rows_of, all_rows, ended_rows, lasting_rows, lasting_wait}
-use Rattle.pim_rows.specs.Rows.{lasting_block, lasting_run, by_number, section_row, nests_row}
-use Rattle.pim_rows.specs.Rows.{deadlock_rows, end_row, wait_with, status_of, was_inverted}
 use Rattle.pim_rows.proofs.NoWaits.{count-flat_map, count-lasting_block, count-lasting_run}
 
 text-append : (xs ys : List Row) → text_of (xs ++ ys) ≡ text_of xs ++ text_of ys

@@ -7,9 +7,9 @@ use Rattle.pim_world.specs.Worlds.{World}
 use Rattle.pim_world.specs.After.{after, set}
 use Rattle.pim_rows.specs.Moments.{Moment, now, number, followed_by}
 use Rattle.pim_world.specs.Standing.{waits}
-use Rattle.pim_rows.specs.Episodes.{is_blocked, is_owned}
+use Rattle.pim_rows.specs.Begun.{is_blocked, is_owned}
 use Rattle.pim_rows.specs.Found.{actor, mutex_of}
-use Rattle.pim_rows.specs.Starts.{AreStarts}
+use Rattle.pim_rows.specs.Kept.{AreStarts}
 use Rattle.pim_rows.proofs.Starting.{starts_kept, starts_followed}
 use Rattle.pim_rows.proofs.Frames.{wait-after, blocked-after, owner-after}
 

@@ -24,7 +24,7 @@ use Rattle.pim_world.specs.Touching.{declares}
 use Rattle.pim_world.proofs.Touching.{outside_both}
 use Rattle.pim_rows.specs.declared.runs.RunChange.{RunChange}
 use Rattle.pim_world.specs.Standing.{thread_number, runs_of}
-use Rattle.pim_rows.specs.Episodes.{run_apart}
+use Rattle.pim_rows.specs.Begun.{run_apart}
 use Rattle.pim_rows.specs.Found.{actor}
 use Rattle.pim_rows.specs.Rows.{by_number}
 use Rattle.pim_rows.specs.Runs.{AreChanges, IsEven, change_of}

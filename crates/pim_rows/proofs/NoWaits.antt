@@ -7,10 +7,8 @@ use Rattle.std.proofs.lemmas.List.Sums.{sum_by-append}
 use Rattle.pim_fact_lines.specs.declared.line.What.TheVariants as whats
 use Rattle.pim_fact_lines.specs.declared.line.Ended.TheVariants as ends
 use Rattle.pim_rows.specs.Moments.{Moment, now, number, clock, began}
-use Rattle.pim_rows.specs.Begun.{RunStart, run_start, block}
-use Rattle.pim_rows.specs.Episodes.{is_blocked, is_run_apart, run_apart}
-use Rattle.pim_rows.specs.Words.{Row}
-use Rattle.pim_rows.specs.Rows.{wait_with, blocked_row, ran_row, ran_rows, ended_run}
+use Rattle.pim_rows.specs.Begun.{RunStart, run_start, block, is_blocked, is_run_apart, run_apart}
+use Rattle.pim_rows.specs.Rows.{Row, wait_with, blocked_row, ran_row, ran_rows, ended_run}
 use Rattle.pim_rows.specs.Rows.{lasting_block, lasting_run}
 
 -- this holds of none of the rows of any item

@@ -12,7 +12,7 @@ use Rattle.pim_world.specs.Worlds.{World}
 use Rattle.pim_world.specs.After.{after, set}
 use Rattle.pim_rows.specs.Moments.{Moment, now, clock, followed_by}
 use Rattle.pim_world.specs.Standing.{is_off}
-use Rattle.pim_rows.specs.Episodes.{off_time}
+use Rattle.pim_rows.specs.Begun.{off_time}
 use Rattle.pim_rows.specs.Found.{actor}
 use Rattle.pim_rows.specs.OffTimes.{IsOffTime, AreOffTimes, no_off_time, off_kept, off_from}
 use Rattle.pim_rows.specs.OffTimes.{off_ended, is_lost}

@@ -20,7 +20,7 @@ use Rattle.pim_base.specs.State.{with_wait}
 use Rattle.pim_rows.specs.declared.runs.RunChange.{RunChange}
 use Rattle.pim_rows.specs.declared.runs.RunLevels.{RunLevels}
 use Rattle.pim_world.specs.Standing.{thread_number, runs_of}
-use Rattle.pim_rows.specs.Episodes.{run_apart}
+use Rattle.pim_rows.specs.Begun.{run_apart}
 use Rattle.pim_rows.specs.Rows.{by_number}
 use Rattle.pim_rows.specs.Runs.{AreChanges, IsEven, runs_now, is_runs, levels_of, change_of}
 use Rattle.pim_world.proofs.Unknown.{nth-append_none}

@@ -16,10 +16,9 @@ use Rattle.pim_world.specs.After.{after, set}
 use Rattle.pim_rows.specs.declared.runs.RunChange.{RunChange}
 use Rattle.pim_rows.specs.declared.runs.RunLevels.{RunLevels}
 use Rattle.pim_rows.specs.Moments.{Moment, first_moments, now, clock, began, number, followed_by}
-use Rattle.pim_rows.specs.Episodes.{run_apart, are_levels, is_run_apart}
-use Rattle.pim_rows.specs.Begun.{RunStart, run_start, run_start_at}
-use Rattle.pim_rows.specs.Words.{Row, row_text}
-use Rattle.pim_rows.specs.Rows.{ran_rows, ended_run, lasting_run, by_number, text_of}
+use Rattle.pim_rows.specs.Begun.{run_apart, are_levels, is_run_apart, RunStart, run_start}
+use Rattle.pim_rows.specs.Begun.{run_start_at}
+use Rattle.pim_rows.specs.Rows.{Row, row_text, ran_rows, ended_run, lasting_run, by_number, text_of}
 use Rattle.pim_rows.specs.Runs.{AreRuns, AreChanges, levels_of, change_of, ended_by, with_begun}
 use Rattle.pim_rows.specs.Runs.{all_ended, with_all, all_lasting}
 use Rattle.pim_rows.proofs.Starting.{began_before, began_now, set_same, set_other}

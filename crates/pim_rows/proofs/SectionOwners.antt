@@ -17,8 +17,7 @@ use Rattle.pim_waits.proofs.Whole.{owner-put, owner-mutex}
 use Rattle.pim_world.specs.Worlds.{World, no_world}
 use Rattle.pim_world.specs.After.{after, after_what, at, at_time, locked, unlocked, with_state}
 use Rattle.pim_rows.specs.Moments.{Moment, now, number, first_moments, followed_by, began}
-use Rattle.pim_rows.specs.Episodes.{is_owned}
-use Rattle.pim_rows.specs.Begun.{grant}
+use Rattle.pim_rows.specs.Begun.{is_owned, grant}
 use Rattle.pim_rows.specs.SectionOwners.{If, Since, IsSectionOf, SectionOwnerLaw}
 
 -- ---- a mutex that is owned before and after has the same owner

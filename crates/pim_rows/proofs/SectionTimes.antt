@@ -17,8 +17,7 @@ use Rattle.pim_world.proofs.Unknown.{nth-append_none}
 use Rattle.pim_rows.specs.Moments.{Moment, now, number, stretch, first_moments, followed_by, began}
 use Rattle.pim_world.specs.Standing.{Key, is_off, off_of, mutex_number}
 use Rattle.pim_rows.specs.Tables.{Table, same_key, precedes, change}
-use Rattle.pim_rows.specs.Episodes.{is_owned, off_time}
-use Rattle.pim_rows.specs.Begun.{Grant, grant}
+use Rattle.pim_rows.specs.Begun.{is_owned, off_time, Grant, grant}
 use Rattle.pim_rows.specs.Found.{Section, Sections, section, sections, with_section, put_section}
 use Rattle.pim_rows.specs.Found.{end_section, lasting_section, all_sections, mutex_of}
 use Rattle.pim_rows.specs.Rows.{moments_of}

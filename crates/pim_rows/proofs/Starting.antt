@@ -6,8 +6,8 @@ use Rattle.pim_world.specs.Worlds.{World}
 use Rattle.pim_world.specs.After.{set}
 use Rattle.pim_rows.specs.Moments.{Moment, now, began, first_moments}
 use Rattle.pim_world.specs.Standing.{waits}
-use Rattle.pim_rows.specs.Episodes.{is_blocked, is_owned}
-use Rattle.pim_rows.specs.Starts.{AreStarts}
+use Rattle.pim_rows.specs.Begun.{is_blocked, is_owned}
+use Rattle.pim_rows.specs.Kept.{AreStarts}
 
 -- at line 1 nothing waits, is blocked or is owned
 pub nothing_waits : (n : ℕ) → waits n (now first_moments) ≡ false

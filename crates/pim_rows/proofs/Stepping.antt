@@ -3,10 +3,8 @@ use Rattle.std.proofs.Common.{◌≡◌, ℕ, ◌+◌, List, [], ◌++◌, sym, 
 use Rattle.std.proofs.Common.{nat_lt}
 use Rattle.pim_fact_lines.specs.declared.line.Line.{Line}
 use Rattle.pim_rows.specs.Moments.{Moment, now, followed_by}
-use Rattle.pim_rows.specs.Rows.{ended_rows, ended_run, by_number, wait_with, text_of}
-use Rattle.pim_rows.specs.Words.{Row}
-use Rattle.pim_rows.specs.Puts.{Puts}
-use Rattle.pim_rows.specs.Ending.{ArePut, ended_of}
+use Rattle.pim_rows.specs.Rows.{ended_rows, ended_run, by_number, wait_with, text_of, Row}
+use Rattle.pim_rows.specs.Ending.{Puts, ArePut, ended_of}
 use Rattle.pim_rows.specs.declared.ended_rows.EndedWaits.{EndedWaits}
 use Rattle.pim_rows.proofs.Appended.{puts_more}
 use Rattle.pim_rows.proofs.NoWaits.{count-ended_run, count-flat_map}

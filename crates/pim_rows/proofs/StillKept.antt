@@ -1,6 +1,6 @@
 -- What is still kept of the waits that last, and what was written of one.
-use Rattle.std.proofs.Common.{◌≡◌, ◌≢◌, ℕ, true, List, ◌++◌, sym, ◌∙◌, ap, subst, Option}
-use Rattle.std.proofs.Common.{Some, None, unwrap_or, if◌then◌else◌, cond, [], inl, inr}
+use Rattle.std.proofs.Common.{◌≡◌, ◌≢◌, ℕ, true, List, ◌++◌, sym, ◌∙◌, ap, subst, Option, Some}
+use Rattle.std.proofs.Common.{None, unwrap_or, if◌then◌else◌, cond, [], inl, inr}
 use Rattle.std.proofs.lemmas.Bool.Decides.{eqb_tells}
 use Rattle.std.specs.Prelude.{nat_lt}
 use Rattle.pim_base.specs.Lists.{nth}
@@ -9,7 +9,7 @@ use Rattle.pim_world.specs.Standing.{waits}
 use Rattle.pim_rows.specs.Begun.{WaitStart, wait_start}
 use Rattle.pim_rows.specs.Tallies.{Tally, tally, total}
 use Rattle.pim_rows.specs.Rows.{wait_rows, lasting_wait, text_of}
-use Rattle.pim_rows.specs.Puts.{Puts}
+use Rattle.pim_rows.specs.Ending.{Puts}
 use Rattle.pim_rows.proofs.Appended.{puts_wait}
 
 pub kept_here :

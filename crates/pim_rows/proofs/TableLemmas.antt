@@ -12,8 +12,7 @@ use Rattle.std.proofs.lemmas.Map.{lookup-none}
 use Rattle.std.proofs.lemmas.Map.Entries.{none_below_head}
 use Rattle.std.proofs.lemmas.Map.Keys.{sorted_tail}
 use Rattle.pim_world.specs.Standing.{Key}
-use Rattle.pim_rows.specs.KeyOrder.{key_cmp}
-use Rattle.pim_rows.specs.Tables.{Table, same_key, precedes, change}
+use Rattle.pim_rows.specs.Tables.{key_cmp, Table, same_key, precedes, change}
 
 key_total : IsTotalOrder key_cmp
 key_total =

@@ -6,9 +6,8 @@ use Rattle.pim_rows.specs.Moments.{Moment}
 use Rattle.pim_rows.specs.Begun.{WaitStart}
 use Rattle.pim_rows.specs.Tallies.{Tally}
 use Rattle.pim_rows.specs.Rows.{wait_row, wait_rows, inverted_row, stalled_row, meanwhile_row}
-use Rattle.pim_rows.specs.Rows.{text_of}
+use Rattle.pim_rows.specs.Rows.{text_of, Row, row, row_text}
 use Rattle.pim_rows.specs.declared.row.Word.TheVariants as words
-use Rattle.pim_rows.specs.Words.{Row, row, row_text}
 
 pub if_ok :
     {T E : Type 0} {P Q : T → Type 0} (r : Result T E)

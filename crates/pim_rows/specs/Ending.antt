@@ -7,9 +7,14 @@ use Rattle.pim_rows.specs.Moments.{Moment, now, followed_by}
 use Rattle.pim_world.specs.Standing.{waits}
 use Rattle.pim_rows.specs.Tallies.{Tally, tally}
 use Rattle.pim_rows.specs.Found.{of_fact}
-use Rattle.pim_rows.specs.Rows.{granted, resumed, text_of, wait_with}
-use Rattle.pim_rows.specs.Words.{Row}
+use Rattle.pim_rows.specs.Rows.{granted, resumed, text_of, wait_with, Row}
 use Rattle.pim_rows.specs.declared.ended_rows.EndedWaits.{EndedWaits}
+
+-- These rows were appended. n of them are of waits, and k of those were inverted.
+pub record Puts (rows : List Row) (old new : List ℕ) (n k : ℕ) : Type 0 where
+  pub text : new ≡ old ++ text_of rows
+  pub waits : n ≡ count_by (wait_with (λ n. true)) rows
+  pub inverted : k ≡ count_by (wait_with (λ n. nat_lt 0 n)) rows
 
 -- the tally of the wait of t if the line after these moments ends it
 abbrev pub ended_tally : ℕ → List Moment → Line → Option Tally

@@ -12,8 +12,7 @@ use Rattle.pim_world.specs.Worlds.{World, owns}
 use Rattle.pim_rows.specs.Moments.{Moment, now, number, clock, began}
 use Rattle.pim_world.specs.Standing.{thread_number, mutex_number, waits}
 use Rattle.pim_rows.specs.Tables.{Table, change}
-use Rattle.pim_rows.specs.Episodes.{is_owned, grant_line, off_time}
-use Rattle.pim_rows.specs.Begun.{Grant, grant}
+use Rattle.pim_rows.specs.Begun.{is_owned, grant_line, off_time, Grant, grant}
 
 -- ---- whom and what a line names
 

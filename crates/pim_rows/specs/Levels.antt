@@ -7,7 +7,7 @@ use Rattle.pim_world.specs.Worlds.{World}
 use Rattle.pim_world.specs.After.{after, set}
 use Rattle.pim_rows.specs.declared.runs.RunChange.{RunChange}
 use Rattle.pim_world.specs.Standing.{runs_of}
-use Rattle.pim_rows.specs.Episodes.{run_apart}
+use Rattle.pim_rows.specs.Begun.{run_apart}
 use Rattle.pim_rows.specs.Runs.{AreChanges, change_of, is_runs}
 
 -- of each thread it is kept at which level the kernel runs it and what it gets, if these are

@@ -1,14 +1,9 @@
-pub mod Words
 pub mod Moments
 pub mod Tables
-pub mod KeyOrder
 pub mod Tallies
-pub mod Episodes
 pub mod Begun
 pub mod Found
 pub mod Rows
-pub mod Puts
-pub mod Starts
 pub mod Runs
 pub mod Levels
 pub mod Kept
@@ -19,7 +14,6 @@ pub mod OpenWaits
 pub mod Laws
 pub mod AllOpen
 pub mod Affected
-pub mod Before
 pub mod Ending
 pub mod Inversions
 pub mod SectionTimes

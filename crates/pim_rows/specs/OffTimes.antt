@@ -5,7 +5,7 @@ use Rattle.pim_fact_lines.specs.declared.line.Line.{Line}
 use Rattle.pim_fact_lines.specs.declared.line.Line.TheVariants as lines
 use Rattle.pim_rows.specs.Moments.{Moment, now, clock}
 use Rattle.pim_world.specs.Standing.{is_off}
-use Rattle.pim_rows.specs.Episodes.{off_time}
+use Rattle.pim_rows.specs.Begun.{off_time}
 use Rattle.pim_rows.specs.declared.off_time.OffTime.{OffTime}
 
 -- the thread was never off

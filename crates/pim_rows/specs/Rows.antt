@@ -1,7 +1,7 @@
 -- The rows of a text: docs/ROWS.md, 'Rows' and 'Order'.
 use Rattle.std.specs.Prelude.{ℕ, ◌-◌, ◌==◌, Bool, true, false, not, ◌&&◌, ◌||◌, List, [], ◌∷◌, ◌++◌}
 use Rattle.std.specs.Prelude.{length, map, nat_lt, if◌then◌else◌, drop, flat_map, count_by}
-use Rattle.std.specs.Prelude.{slice_get}
+use Rattle.std.specs.Prelude.{slice_get, codes, decimal}
 use Rattle.std.specs.List.{fold, filter, list_any}
 use Rattle.std.specs.Option.{option_map_or}
 use Rattle.pim_base.specs.Lists.{contains, sort_by}
@@ -16,12 +16,35 @@ use Rattle.pim_world.specs.Worlds.{World}
 use Rattle.pim_rows.specs.Moments.{Moment, first_moments, followed_by, now, number, clock, began}
 use Rattle.pim_world.specs.Standing.{Key, thread_number, waits}
 use Rattle.pim_rows.specs.Tallies.{Tally, tally, total}
-use Rattle.pim_rows.specs.Episodes.{is_blocked, run_apart, is_run_apart}
-use Rattle.pim_rows.specs.Begun.{WaitStart, wait_start, Block, block, RunStart, run_start}
+use Rattle.pim_rows.specs.Begun.{is_blocked, run_apart, is_run_apart, WaitStart, wait_start, Block}
+use Rattle.pim_rows.specs.Begun.{block, RunStart, run_start}
 use Rattle.pim_rows.specs.declared.row.Word.{Word}
 use Rattle.pim_rows.specs.declared.row.Word.TheVariants as words
-use Rattle.pim_rows.specs.Words.{Row, row, row_text}
 use Rattle.pim_rows.specs.Found.{of_fact, Sections, all_sections, Nests, nests}
+
+abbrev pub word_text : Word → List ℕ
+word_text words.Wait = codes "wait"
+word_text words.Inverted = codes "inverted"
+word_text words.Stalled = codes "stalled"
+word_text words.Meanwhile = codes "meanwhile"
+word_text words.Blocked = codes "blocked"
+word_text words.Ran = codes "ran"
+word_text words.Section = codes "section"
+word_text words.Nests = codes "nests"
+word_text words.Deadlock = codes "deadlock"
+word_text words.End = codes "end"
+
+-- a word, and numbers
+pub record Row : Type 0 where
+  pub word : Word
+  pub numbers : List ℕ
+
+abbrev pub row : Word → List ℕ → Row
+row word numbers = record { word = word; numbers = numbers }
+
+-- a space before each number, in decimal, and a newline at the end
+abbrev pub row_text : Row → List ℕ
+row_text r = word_text r.word ++ (flat_map (λ n. 32 ∷ decimal n) r.numbers ++ 10 ∷ [])
 
 -- ---- waits
 

@@ -13,10 +13,9 @@ use Rattle.pim_fact_lines.specs.declared.line.What.TheVariants as whats
 use Rattle.pim_rows.specs.declared.runs.RunChange.{RunChange}
 use Rattle.pim_rows.specs.declared.runs.RunLevels.{RunLevels}
 use Rattle.pim_rows.specs.Moments.{Moment, now, began}
-use Rattle.pim_rows.specs.Episodes.{run_apart, are_levels, is_run_apart}
-use Rattle.pim_rows.specs.Begun.{RunStart, run_start, run_start_at}
-use Rattle.pim_rows.specs.Words.{Row}
-use Rattle.pim_rows.specs.Rows.{ran_rows, by_number}
+use Rattle.pim_rows.specs.Begun.{run_apart, are_levels, is_run_apart, RunStart, run_start}
+use Rattle.pim_rows.specs.Begun.{run_start_at}
+use Rattle.pim_rows.specs.Rows.{Row, ran_rows, by_number}
 
 -- of each thread that the kernel runs at another level than it gets it is kept how that began
 abbrev pub AreRuns : (ℕ → Option RunStart) → List Moment → Type 0

@@ -4,8 +4,7 @@ use Rattle.pim_base.specs.State.{owner_of}
 use Rattle.pim_fact_lines.specs.declared.line.Line.{Line}
 use Rattle.pim_world.specs.Worlds.{World}
 use Rattle.pim_rows.specs.Moments.{Moment, now, began}
-use Rattle.pim_rows.specs.Episodes.{is_owned}
-use Rattle.pim_rows.specs.Begun.{grant}
+use Rattle.pim_rows.specs.Begun.{is_owned, grant}
 use Rattle.pim_rows.specs.Rows.{moments_of}
 
 -- this is so, if that holds

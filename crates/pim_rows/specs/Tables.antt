@@ -5,6 +5,8 @@ use Rattle.std.specs.List.{position_or_len}
 use Rattle.std.specs.Option.{option_and_then}
 use Rattle.pim_world.specs.Standing.{Key}
 pub use Rattle.pim_world.specs.Standing.{same_key}
+use Rattle.std.specs.Ordering.{ordering_then, nat_cmp}
+use Rattle.std.specs.declared.cmp.Ordering.{Ordering}
 
 abbrev pub Table : Type 0 → Type 0
 Table V = List (Key × V)
@@ -43,3 +45,7 @@ add (Some k) time rows = if time == 0 then rows else change k (λ sum. unwrap_or
 -- all times of a table together
 abbrev pub total : Table ℕ → ℕ
 total rows = sum (map (λ row. row.1) rows)
+
+-- by the first numbers, or else by the second ones, or else by the third ones
+abbrev pub key_cmp : Key → Key → Ordering
+key_cmp j k = ordering_then (ordering_then (nat_cmp j.0 k.0) (nat_cmp j.1 k.1)) (nat_cmp j.2 k.2)

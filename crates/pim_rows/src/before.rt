@@ -3,8 +3,8 @@
 ghost use Rattle.std.specs.Prelude.{◌≡◌, ℕ, Some};
 ghost use Rattle.pim_world.specs.Held.{world_of};
 ghost use Rattle.pim_world.specs.Standing.{waits, is_off};
-ghost use Rattle.pim_rows.specs.Episodes.{is_blocked, is_owned};
-ghost use Rattle.pim_rows.specs.Before.{IsBefore};
+ghost use Rattle.pim_rows.specs.Begun.{is_blocked, is_owned};
+ghost use Rattle.pim_rows.specs.Tracking.{IsBefore};
 
 use pim_waits::{MutexPlace, ThreadPlace};
 use pim_world::World;

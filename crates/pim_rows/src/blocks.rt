@@ -5,11 +5,11 @@ ghost use Rattle.pim_fact_lines.specs.declared.line.Line.{Line};
 ghost use Rattle.pim_world.specs.After.{after};
 ghost use Rattle.pim_world.specs.Held.{world_of};
 ghost use Rattle.pim_rows.specs.Moments.{Moment, now, number, followed_by};
-ghost use Rattle.pim_rows.specs.Episodes.{is_blocked};
+ghost use Rattle.pim_rows.specs.Begun.{is_blocked};
 ghost use Rattle.pim_rows.specs.Begun.{block};
 ghost use Rattle.pim_rows.specs.Found.{actor};
 ghost use Rattle.pim_rows.specs.Kept.{kept_of};
-ghost use Rattle.pim_rows.specs.Starts.{AreStarts};
+ghost use Rattle.pim_rows.specs.Kept.{AreStarts};
 
 use crate::block::Block;
 use crate::starts::Starts;

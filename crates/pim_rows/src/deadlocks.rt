@@ -8,7 +8,7 @@ ghost use Rattle.pim_rows.specs.Rows.{by_number, cycle, is_least, is_first_of_cy
 ghost use Rattle.pim_rows.specs.Rows.{text_of};
 ghost use Rattle.pim_base.specs.Lists.{contains};
 ghost use Rattle.pim_waits.specs.Waiting.{way};
-ghost use Rattle.pim_rows.specs.Words.{row, row_text};
+ghost use Rattle.pim_rows.specs.Rows.{row, row_text};
 ghost use Rattle.pim_rows.specs.declared.row.Word.TheVariants as words;
 ghost use Rattle.pim_world.specs.Standing.{thread_number};
 ghost use Rattle.pim_world.specs.Held.{world_of};

@@ -7,12 +7,12 @@ ghost use Rattle.pim_world.specs.Following.{may_follow, may_happen};
 ghost use Rattle.pim_world.specs.Held.{world_of};
 ghost use Rattle.pim_rows.specs.Moments.{Moment, now, number as number_of, followed_by};
 ghost use Rattle.pim_world.specs.Standing.{waits};
-ghost use Rattle.pim_rows.specs.Episodes.{is_blocked};
+ghost use Rattle.pim_rows.specs.Begun.{is_blocked};
 ghost use Rattle.pim_rows.specs.Begun.{wait_start, block};
 ghost use Rattle.pim_rows.specs.Found.{actor};
 ghost use Rattle.pim_rows.specs.Kept.{kept_of};
 ghost use Rattle.pim_rows.specs.Rows.{granted, resumed, text_of};
-ghost use Rattle.pim_rows.specs.Starts.{AreStarts};
+ghost use Rattle.pim_rows.specs.Kept.{AreStarts};
 ghost use Rattle.pim_rows.specs.Ending.{HasEnded, ended_tally, ended_of, ArePut};
 
 use crate::block_rows::put_block;

@@ -7,11 +7,11 @@ ghost use Rattle.pim_fact_lines.specs.declared.line.Line.{Line};
 ghost use Rattle.pim_world.specs.After.{after};
 ghost use Rattle.pim_world.specs.Held.{world_of};
 ghost use Rattle.pim_rows.specs.Moments.{Moment, now, number, followed_by};
-ghost use Rattle.pim_rows.specs.Episodes.{is_owned, grant_line, off_time};
+ghost use Rattle.pim_rows.specs.Begun.{is_owned, grant_line, off_time};
 ghost use Rattle.pim_rows.specs.Begun.{grant, owner_or_none};
 ghost use Rattle.pim_rows.specs.Found.{mutex_of};
 ghost use Rattle.pim_rows.specs.Kept.{kept_of};
-ghost use Rattle.pim_rows.specs.Starts.{AreStarts};
+ghost use Rattle.pim_rows.specs.Kept.{AreStarts};
 
 use crate::grant::Grant;
 use crate::starts::Starts;

@@ -6,11 +6,11 @@ ghost use Rattle.pim_fact_lines.specs.declared.line.Line.{Line};
 ghost use Rattle.pim_world.specs.Worlds.{owns};
 ghost use Rattle.pim_world.specs.Held.{world_of};
 ghost use Rattle.pim_rows.specs.Moments.{Moment, now, number, followed_by};
-ghost use Rattle.pim_rows.specs.Episodes.{is_owned};
+ghost use Rattle.pim_rows.specs.Begun.{is_owned};
 ghost use Rattle.pim_rows.specs.Begun.{grant};
 ghost use Rattle.pim_rows.specs.Found.{actor, asked_mutex, of_fact, put_nest, put_nests, nests};
 ghost use Rattle.pim_rows.specs.Kept.{kept_of};
-ghost use Rattle.pim_rows.specs.Starts.{AreStarts};
+ghost use Rattle.pim_rows.specs.Kept.{AreStarts};
 
 use crate::grants::Grants;
 use crate::nest_table::NestTable;

@@ -7,7 +7,7 @@ ghost use Rattle.pim_world.specs.After.{after, set};
 ghost use Rattle.pim_world.specs.Held.{world_of};
 ghost use Rattle.pim_rows.specs.Moments.{Moment, now, first_moments, followed_by};
 ghost use Rattle.pim_world.specs.Standing.{is_off};
-ghost use Rattle.pim_rows.specs.Episodes.{off_time};
+ghost use Rattle.pim_rows.specs.Begun.{off_time};
 ghost use Rattle.pim_rows.specs.Found.{actor};
 ghost use Rattle.pim_rows.specs.Kept.{kept_of};
 ghost use Rattle.pim_rows.specs.OffTimes.{AreOffTimes, off_kept, is_lost};

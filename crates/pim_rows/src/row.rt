@@ -1,7 +1,7 @@
 //! The words with which rows begin.
 
 ghost use Rattle.std.specs.Prelude.{◌≡◌};
-ghost use Rattle.pim_rows.specs.Words.{word_text};
+ghost use Rattle.pim_rows.specs.Rows.{word_text};
 
 /// The word with which a row begins.
 #[derive(Clone, Copy)]

@@ -1,7 +1,7 @@
 //! Rows in a buffer.
 
 ghost use Rattle.std.specs.Prelude.{◌≡◌, ◌++◌, ◌∷◌, decimal, IfOk};
-ghost use Rattle.pim_rows.specs.Words.{row, row_text};
+ghost use Rattle.pim_rows.specs.Rows.{row, row_text};
 
 use crate::row::Word;
 use std::alloc::AllocError;

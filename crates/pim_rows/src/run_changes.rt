@@ -7,7 +7,7 @@ ghost use Rattle.pim_world.specs.After.{after};
 ghost use Rattle.pim_world.specs.Held.{world_of, touched_of};
 ghost use Rattle.pim_world.specs.Touching.{declares};
 ghost use Rattle.pim_world.specs.Worlds as worlds;
-ghost use Rattle.pim_rows.specs.Episodes.{run_apart};
+ghost use Rattle.pim_rows.specs.Begun.{run_apart};
 ghost use Rattle.pim_rows.specs.Found.{actor};
 ghost use Rattle.pim_rows.specs.Levels.{IsUnrun, MayChange, moves_all};
 ghost use Rattle.pim_rows.specs.Rows.{by_number};

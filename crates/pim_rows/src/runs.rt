@@ -5,7 +5,7 @@ ghost use Rattle.pim_fact_lines.specs.declared.line.Line.{Line};
 ghost use Rattle.pim_world.specs.After.{after};
 ghost use Rattle.pim_world.specs.Held.{world_of};
 ghost use Rattle.pim_rows.specs.Moments.{Moment, first_moments, now, number, followed_by};
-ghost use Rattle.pim_rows.specs.Episodes.{are_levels};
+ghost use Rattle.pim_rows.specs.Begun.{are_levels};
 ghost use Rattle.pim_rows.specs.Kept.{kept_of};
 ghost use Rattle.pim_rows.specs.Rows.{ran_rows, ended_run, lasting_run, by_number, text_of};
 ghost use Rattle.pim_rows.specs.Runs.{AreRuns, AreChanges, levels_of, ended_by, all_ended};

@@ -5,7 +5,7 @@ ghost use Rattle.std.specs.BTreeMap.{insert_entry, is_at};
 ghost use Rattle.std.specs.List.Sorted.{IsStrictlySortedBy};
 ghost use Rattle.std.specs.Map.{keys_of, lookup};
 ghost use Rattle.pim_rows.specs.Found.{with_section};
-ghost use Rattle.pim_rows.specs.KeyOrder.{key_cmp};
+ghost use Rattle.pim_rows.specs.Tables.{key_cmp};
 ghost use Rattle.pim_rows.specs.Rows.{section_row, text_of};
 ghost use Rattle.pim_rows.specs.Tables.{change};
 

@@ -5,13 +5,13 @@ ghost use Rattle.pim_fact_lines.specs.declared.line.Line.{Line};
 ghost use Rattle.pim_world.specs.After.{after};
 ghost use Rattle.pim_world.specs.Held.{world_of};
 ghost use Rattle.pim_rows.specs.Moments.{Moment, now, followed_by};
-ghost use Rattle.pim_rows.specs.Episodes.{is_owned};
+ghost use Rattle.pim_rows.specs.Begun.{is_owned};
 ghost use Rattle.pim_rows.specs.Begun.{grant};
 ghost use Rattle.pim_rows.specs.Found.{mutex_of, section, put_section, sections, all_sections};
 ghost use Rattle.pim_rows.specs.Found.{lasting_section};
 ghost use Rattle.pim_rows.specs.Kept.{kept_of};
 ghost use Rattle.pim_rows.specs.OffTimes.{AreOffTimes};
-ghost use Rattle.pim_rows.specs.Starts.{AreStarts};
+ghost use Rattle.pim_rows.specs.Kept.{AreStarts};
 
 use crate::grant::Grant;
 use crate::grants::Grants;

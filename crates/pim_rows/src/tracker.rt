@@ -1,17 +1,18 @@
 //! What the rows need of the lines so far.
 
-ghost use Rattle.std.specs.Prelude.{◌≡◌, ◌==◌, ◌+◌, ℕ, List, Some, IfOk, IsTrue};
+ghost use Rattle.std.specs.Prelude.{◌≡◌, ◌==◌, ◌+◌, ℕ, List, Some, None, IfOk, IsTrue, MatchOption};
 ghost use Rattle.pim_waits.specs.Waiting.{gets};
 ghost use Rattle.pim_world.specs.Held.{world_of};
 ghost use Rattle.pim_fact_lines.specs.declared.line.Line.{Line};
 ghost use Rattle.pim_world.specs.Following.{may_follow};
 ghost use Rattle.pim_rows.specs.Moments.{Moment, now, first_moments, followed_by};
 ghost use Rattle.pim_rows.specs.Rows.{rows_of, status_of, text_of};
-ghost use Rattle.pim_rows.specs.Episodes.{off_time};
+ghost use Rattle.pim_rows.specs.Begun.{off_time};
 ghost use Rattle.pim_rows.specs.Begun.{owner_or_none};
 ghost use Rattle.pim_rows.specs.Kept.{kept_of};
 ghost use Rattle.pim_rows.specs.OffTimes.{AreOffTimes};
-ghost use Rattle.pim_rows.specs.Tracking.{Tracks};
+ghost use Rattle.pim_world.specs.Texts.{line_after};
+ghost use Rattle.pim_rows.specs.Tracking.{Tracks, HasTaken};
 
 use crate::affected::affected;
 use crate::before::Before;
@@ -36,7 +37,7 @@ use crate::sections::{end_section, put_lasting_sections};
 use crate::wait_starts::WaitStarts;
 use pim_fact_lines::Line;
 use pim_waits::{MutexPlace, ThreadPlace};
-use pim_world::World;
+use pim_world::{Why, World};
 use std::alloc::{AllocError, Global};
 use std::mem;
 
@@ -107,12 +108,31 @@ impl Tracker {
         }
     }
 
+    /// Goes on by the line that bytes spell. Returns why it is invalid, or `None` if it is valid.
+    ///
+    /// # Errors
+    ///
+    /// Returns `AllocError` if out of memory.
+    pub(crate) fn take(&mut self, alloc: Global, bytes: &[u8]) -> Result<Option<Why>, AllocError>
+        requires { (ms : List Moment) × Tracks self.old ms }
+        ensures { IfOk result (λ why. (ms : List Moment) → Tracks self.old ms
+            → MatchOption why (HasTaken self.new ms bytes.now)
+            (λ _. line_after (now ms) bytes.now ≡ None)) }
+    {
+        let line = match self.world.read(bytes) {
+            Ok(line) => line,
+            Err(why) => return Ok(Some(why)),
+        };
+        self.step(alloc, &line)?;
+        Ok(None)
+    }
+
     /// Goes on by a line that may follow.
     ///
     /// # Errors
     ///
     /// Returns `AllocError` if out of memory.
-    pub(crate) fn step(&mut self, alloc: Global, line: &Line) -> Result<(), AllocError>
+    fn step(&mut self, alloc: Global, line: &Line) -> Result<(), AllocError>
         requires { (ms : List Moment) × Tracks self.old ms }
         ensures { (ms : List Moment) → Tracks self.old ms → IsTrue (may_follow (now ms) line.now)
             → IfOk result (λ _. Tracks self.new (followed_by ms line.now)) }

@@ -4,7 +4,7 @@ ghost use Rattle.std.specs.Prelude.{◌≡◌, ◌∷◌, ◌++◌, [], ℕ, Lis
 ghost use Rattle.pim_rows.specs.Moments.{Moment, clock as clock_of};
 ghost use Rattle.pim_rows.specs.Rows.{wait_row, wait_rows, inverted_row, text_of};
 ghost use Rattle.pim_world.specs.Standing.{Key as SpecKey};
-ghost use Rattle.pim_rows.specs.Words.{row};
+ghost use Rattle.pim_rows.specs.Rows.{row};
 
 use crate::row::Word;
 use crate::rows_text::put_row;

@@ -7,11 +7,11 @@ ghost use Rattle.pim_world.specs.After.{after};
 ghost use Rattle.pim_world.specs.Held.{world_of};
 ghost use Rattle.pim_rows.specs.Moments.{Moment, now, number, followed_by};
 ghost use Rattle.pim_world.specs.Standing.{waits};
-ghost use Rattle.pim_rows.specs.Episodes.{is_owned};
+ghost use Rattle.pim_rows.specs.Begun.{is_owned};
 ghost use Rattle.pim_rows.specs.Begun.{grant, wait_start};
 ghost use Rattle.pim_rows.specs.Found.{actor};
 ghost use Rattle.pim_rows.specs.Kept.{kept_of};
-ghost use Rattle.pim_rows.specs.Starts.{AreStarts};
+ghost use Rattle.pim_rows.specs.Kept.{AreStarts};
 
 use crate::grants::Grants;
 use crate::starts::Starts;

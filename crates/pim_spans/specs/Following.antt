@@ -5,7 +5,8 @@ use Rattle.pim_fact_lines.specs.declared.line.Line.{Line}
 use Rattle.pim_world.specs.After.{after}
 use Rattle.pim_world.specs.Held.{world_of}
 use Rattle.pim_rows.specs.Affected.{AreWaits}
-use Rattle.pim_rows.specs.Moments.{Moment, now, number}
+use Rattle.pim_world.specs.Texts.{line_after}
+use Rattle.pim_rows.specs.Moments.{Moment, now, number, followed_by}
 use Rattle.pim_spans.specs.declared.kind.Kind.{Kind}
 use Rattle.pim_spans.specs.declared.kind.Kind.TheVariants as kinds
 use Rattle.pim_spans.specs.declared.thread_tracks.ThreadTracks.{ThreadTracks}
@@ -69,3 +70,8 @@ pub record Follows (f : Follower) (ms : List Moment) : Type 0 where
   pub number : f.number ≡ number ms
   pub threads : AreThreads f.window ms f.threads
   pub owns : AreKept f.window (holding kinds.Owns) ms (kept_at f.owns.tracks.items)
+
+-- the bytes spell a line that may follow these, and it has followed that one, too
+abbrev pub HasTaken : Follower → List Moment → List ℕ → Type 0
+HasTaken f ms bytes =
+    (line : Line) × (line_after (now ms) bytes ≡ Some line) × Follows f (followed_by ms line)

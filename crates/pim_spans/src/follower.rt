@@ -1,10 +1,10 @@
 //! What the spans need of the lines so far.
 
-ghost use Rattle.std.specs.Prelude.{◌≡◌, ◌+◌, ◌++◌, ◌≢◌, ◌≤◌, ◌∷◌, ℕ, List, IfOk, IsTrue, Some};
+ghost use Rattle.std.specs.Prelude.{◌≡◌, ◌++◌, ◌≢◌, ◌∷◌, ℕ, List, IfOk, MatchOption, Some, None};
 ghost use Rattle.pim_world.specs.Held.{world_of};
-ghost use Rattle.pim_world.specs.Following.{may_follow};
 ghost use Rattle.pim_rows.specs.Moments.{Moment, now, first_moments, followed_by};
-ghost use Rattle.pim_spans.specs.Following.{Follows};
+ghost use Rattle.pim_spans.specs.Following.{Follows, HasTaken};
+ghost use Rattle.pim_world.specs.Texts.{line_after};
 ghost use Rattle.pim_spans.specs.Found.{spans_text};
 ghost use Rattle.pim_spans.specs.Holding.{holding, owned_by};
 ghost use Rattle.pim_spans.specs.Kept.{AreKept, kept_at};
@@ -20,7 +20,7 @@ use crate::tracks::Tracks;
 use crate::window::Window;
 use pim_fact_lines::Line;
 use pim_waits::MutexPlace;
-use pim_world::{Key, World};
+use pim_world::{Key, Why, World};
 use std::alloc::{AllocError, Global};
 
 /// What the spans need of the lines so far.
@@ -68,12 +68,31 @@ impl Follower {
         }
     }
 
+    /// Goes on by the line that bytes spell. Returns why it is invalid, or `None` if it is valid.
+    ///
+    /// # Errors
+    ///
+    /// Returns `AllocError` if out of memory.
+    pub(crate) fn take(&mut self, alloc: Global, bytes: &[u8]) -> Result<Option<Why>, AllocError>
+        ensures taken { IfOk result (λ why. (ms : List Moment) → Follows self.old ms
+            → MatchOption why (HasTaken self.new ms bytes.now)
+            (λ _. line_after (now ms) bytes.now ≡ None)) }
+        ensures window { self.new.window ≡ self.old.window }
+    {
+        let line = match self.world.read(bytes) {
+            Ok(line) => line,
+            Err(why) => return Ok(Some(why)),
+        };
+        self.step(alloc, &line)?;
+        Ok(None)
+    }
+
     /// Goes on by a line that may follow.
     ///
     /// # Errors
     ///
     /// Returns `AllocError` if out of memory.
-    pub(crate) fn step(&mut self, alloc: Global, line: &Line) -> Result<(), AllocError>
+    fn step(&mut self, alloc: Global, line: &Line) -> Result<(), AllocError>
         ensures follows { IfOk result (λ _. (ms : List Moment) → Follows self.old ms
             → Follows self.new (followed_by ms line.now)) }
         ensures window { self.new.window ≡ self.old.window }

@@ -12,7 +12,8 @@ ghost use Rattle.pim_tool.specs.Running.{Unread, IsOfRun, Wrote, StandsAfter, ca
 use crate::scripts::scripts_of;
 use pim_base::{MAX_WORKERS, Op, Verdict};
 use pim_judge::{
-    Fault, Sink, Source, judge_entries, manager_of, parse_script, print_trace, print_verdict, read_all,
+    Fault, Sink, Source, judge_entries, manager_of, parse_script, print_trace, print_verdict,
+    read_all,
 };
 use pim_manager::Manager;
 use pim_shared::{Log, Shared, gather, run_scripts};

@@ -1,4 +1,4 @@
-//! The example of docs/LIBRARY.md, which has these lines, from the first `use` to the end of `contend`.
+//! The example of docs/CONTRACTS.md, which has these lines, from the first `use` to the end of `contend`.
 
 ghost use Rattle.std.specs.Prelude.{◌≡◌, max, IfOk};
 ghost use Rattle.pim_base.specs.Priorities.{effective_priority};

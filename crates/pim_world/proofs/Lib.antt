@@ -1,7 +1,6 @@
 pub mod Unknown
 pub mod InOrder
 pub mod Fronts
-pub mod Halfway
 pub mod States
 pub mod Cpus
 pub mod Steadiness

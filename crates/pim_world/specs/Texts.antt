@@ -15,10 +15,6 @@ use Rattle.pim_world.specs.After.{after}
 abbrev pub line_after : World → List ℕ → Option Line
 line_after w bytes = given (line_of bytes) (λ line. if may_follow w line then Some line else None)
 
--- the world after it
-abbrev pub go_on : World → List ℕ → Option World
-go_on w bytes = option_map (after w) (line_after w bytes)
-
 -- the lines that all of these spell, if each may follow those before it
 abbrev pub lines_after : World → List (List ℕ) → Option (List Line)
 lines_after w [] = Some []

@@ -3,8 +3,8 @@
 
 ghost use Rattle.pim_world.specs.Laws.{AtMostOneIsFirst, ValidHasNone, SteadyLaw};
 
-/// At most one line is the first invalid one, and a text has none. So what `check_text` returns is
-/// determined, but for a lack of memory and the reason of a fault.
+/// At most one line is the first invalid one, and a text has none. So which line a fault names is
+/// determined.
 pub fn first_invalid_line_law()
     ensures at_most_one { AtMostOneIsFirst }
     ensures valid { ValidHasNone }

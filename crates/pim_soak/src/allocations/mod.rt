@@ -1,6 +1,6 @@
 //! What each call that allocates returns while allocations fail.
 //!
-//! `tests/memory` makes each call again and again: its first allocation fails, then its second, and so on. A call whose
+//! `tests/program` makes each call again and again: its first allocation fails, then its second, and so on. A call whose
 //! allocation fails must say so and change nothing, and what comes after it must work. It then ends in
 //! [`Failure::InCall`].
 

@@ -1,6 +1,6 @@
 //! A judge of traces over the plain manager, with the lines, faults and exit statuses of `pim`.
 //!
-//! It computes each priority and reason from scratch, and `tests/suite` and `tests/judge` compare the other
+//! It computes each priority and reason from scratch, and `tests/suite` and `tests/program` compare the other
 //! implementations with it. No contract says what it prints, apart from those of the functions that it calls.
 
 mod report;

@@ -9,9 +9,9 @@ use crate::explaining::bytes::of_bytes;
 use crate::explaining::reason::{NewWord, Reason};
 use crate::explaining::step::of_step;
 use crate::explaining::word::{NumberAt, has_word, misspells_prio, number_at};
-use pim_base::{MAX_MUTEXES, MAX_TASKS};
 use crate::kind::Kind;
 use crate::text::Text;
+use pim_base::{MAX_MUTEXES, MAX_TASKS};
 
 /// Returns the reason why the first line is invalid.
 #[tactic(auto, using(crate::proofs::WordPlaceLemmas::no_version))]

@@ -9,12 +9,11 @@ mod reason;
 mod step;
 mod word;
 
-pub use reason::{NewWord, Reason};
-
 use crate::kind::Kind;
 use crate::reading::parse;
 use line::{of_first_line, of_next_line};
 use place::place_of;
+pub use reason::{NewWord, Reason};
 use std::alloc::Global;
 
 /// Returns why a line of a text is invalid, counted from 1. The lines before it should be valid, as those before the

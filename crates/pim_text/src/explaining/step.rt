@@ -9,9 +9,9 @@ ghost use Rattle.pim_text.specs.Explains.{Says, IsStep, HasWord, last_of};
 
 use crate::explaining::reason::{NewWord, Reason};
 use crate::explaining::word::{NumberAt, has_word, number_at, word_at};
-use pim_base::MAX_STEPS;
 use crate::kind::Kind;
 use crate::text::Text;
+use pim_base::MAX_STEPS;
 
 /// Returns the reason why the line of a step is invalid after those of the text.
 pub(crate) fn of_step(text: &Text, line: &[u8], actor: u16, kind: Kind) -> Reason

@@ -1,7 +1,6 @@
 use Rattle.std.proofs.Common.{◌≡◌, ◌≤◌, ◌++◌, map, take, length}
 use Rattle.std.specs.List.{filter}
-use Rattle.pim_rows.specs.Rows.{text_of, cycle, is_first_of_cycle}
-use Rattle.pim_rows.specs.Words.{row}
+use Rattle.pim_rows.specs.Rows.{text_of, cycle, is_first_of_cycle, row}
 use Rattle.pim_rows.specs.declared.row.Word.TheVariants as words
 use Rattle.pim_world.specs.Held.{world_of}
 use Rattle.pim_rows.proofs.deadlocks.put_deadlocks.Given as goal

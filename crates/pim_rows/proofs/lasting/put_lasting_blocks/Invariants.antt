@@ -2,10 +2,8 @@ use Rattle.std.proofs.Common.{◌≡◌, ◌++◌, List, take}
 use Rattle.std.specs.Prelude.{flat_map}
 use Rattle.pim_world.specs.Held.{world_of}
 use Rattle.pim_rows.specs.Moments.{Moment, now}
-use Rattle.pim_rows.specs.Episodes.{is_blocked}
-use Rattle.pim_rows.specs.Begun.{block}
-use Rattle.pim_rows.specs.Kept.{kept_of}
-use Rattle.pim_rows.specs.Starts.{AreStarts}
+use Rattle.pim_rows.specs.Begun.{is_blocked, block}
+use Rattle.pim_rows.specs.Kept.{kept_of, AreStarts}
 use Rattle.pim_rows.specs.Rows.{lasting_block, text_of}
 use Rattle.pim_rows.proofs.lasting.put_lasting_blocks.Given as goal
 

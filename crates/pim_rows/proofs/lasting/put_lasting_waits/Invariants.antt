@@ -5,12 +5,11 @@ use Rattle.pim_world.specs.Held.{world_of}
 use Rattle.pim_rows.specs.Moments.{Moment, now}
 use Rattle.pim_world.specs.Standing.{waits}
 use Rattle.pim_rows.specs.Begun.{wait_start}
-use Rattle.pim_rows.specs.Kept.{kept_of}
-use Rattle.pim_rows.specs.Starts.{AreStarts}
+use Rattle.pim_rows.specs.Kept.{kept_of, AreStarts}
 use Rattle.pim_rows.specs.AllOpen.{AreOpen}
 use Rattle.pim_rows.specs.declared.open_wait.OpenWait.{OpenWait}
 use Rattle.pim_rows.specs.Rows.{lasting_wait}
-use Rattle.pim_rows.specs.Puts.{Puts}
+use Rattle.pim_rows.specs.Ending.{Puts}
 use Rattle.pim_rows.proofs.lasting.put_lasting_waits.Given as goal
 
 -- the rows of the threads so far; what is still kept is what was kept

@@ -4,11 +4,9 @@ use Rattle.pim_base.specs.Lists.{numbers, holds}
 use Rattle.pim_base.specs.State.{owner_of}
 use Rattle.pim_world.specs.Held.{world_of}
 use Rattle.pim_rows.specs.Moments.{Moment, now, number}
-use Rattle.pim_rows.specs.Episodes.{is_owned}
-use Rattle.pim_rows.specs.Begun.{grant}
+use Rattle.pim_rows.specs.Begun.{is_owned, grant}
 use Rattle.pim_rows.specs.Found.{put_nest}
-use Rattle.pim_rows.specs.Kept.{kept_of}
-use Rattle.pim_rows.specs.Starts.{AreStarts}
+use Rattle.pim_rows.specs.Kept.{kept_of, AreStarts}
 use Rattle.pim_rows.proofs.nesting.put_nests_of.Given as goal
 
 -- the requests within the sections up to the last one

@@ -1,6 +1,6 @@
 use Rattle.std.proofs.Common.{◌≡◌, ◌++◌, ◌∷◌, decimal}
 use Rattle.std.specs.Prelude.{flat_map, take}
-use Rattle.pim_rows.specs.Words.{word_text}
+use Rattle.pim_rows.specs.Rows.{word_text}
 use Rattle.pim_rows.proofs.rows_text.put_row.Given as goal
 
 -- the word and the numbers so far

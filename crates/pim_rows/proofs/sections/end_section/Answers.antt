@@ -2,7 +2,7 @@ use Rattle.std.proofs.Common.{◌≡◌, true, false, sym, ◌∙◌, ap, is_som
 use Rattle.pim_base.specs.State.{State, owner_of}
 use Rattle.pim_world.specs.Worlds.{World}
 use Rattle.pim_rows.specs.Moments.{now, began, followed_by}
-use Rattle.pim_rows.specs.Episodes.{is_owned}
+use Rattle.pim_rows.specs.Begun.{is_owned}
 use Rattle.pim_rows.specs.Found.{put_section}
 use Rattle.pim_rows.proofs.Ended.{sections_after}
 use Rattle.pim_rows.proofs.sections.end_section.Goals as goal

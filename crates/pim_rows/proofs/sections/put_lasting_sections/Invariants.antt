@@ -3,12 +3,10 @@ use Rattle.std.specs.List.{fold}
 use Rattle.pim_base.specs.Lists.{numbers}
 use Rattle.pim_world.specs.Held.{world_of}
 use Rattle.pim_rows.specs.Moments.{Moment, now}
-use Rattle.pim_rows.specs.Episodes.{is_owned}
-use Rattle.pim_rows.specs.Begun.{grant}
+use Rattle.pim_rows.specs.Begun.{is_owned, grant}
 use Rattle.pim_rows.specs.Found.{lasting_section}
-use Rattle.pim_rows.specs.Kept.{kept_of}
+use Rattle.pim_rows.specs.Kept.{kept_of, AreStarts}
 use Rattle.pim_rows.specs.OffTimes.{AreOffTimes}
-use Rattle.pim_rows.specs.Starts.{AreStarts}
 use Rattle.pim_rows.proofs.sections.put_lasting_sections.Given as goal
 
 -- the sections at the places so far

@@ -1,7 +1,6 @@
 use Rattle.std.proofs.Common.{◌≡◌, ◌++◌, ◌∷◌, [], ℕ, map, take}
-use Rattle.pim_rows.specs.Rows.{text_of}
+use Rattle.pim_rows.specs.Rows.{text_of, row}
 use Rattle.pim_world.specs.Standing.{Key}
-use Rattle.pim_rows.specs.Words.{row}
 use Rattle.pim_rows.proofs.wait_rows.put_pairs.Given as goal
 
 -- the rows so far

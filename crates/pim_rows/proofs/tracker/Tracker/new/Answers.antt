@@ -1,7 +1,6 @@
 use Rattle.std.proofs.Common.{refl, []}
 use Rattle.pim_world.specs.Standing.{waits}
-use Rattle.pim_rows.specs.Episodes.{is_blocked, is_owned}
-use Rattle.pim_rows.specs.Begun.{wait_start, block, grant}
+use Rattle.pim_rows.specs.Begun.{is_blocked, is_owned, wait_start, block, grant}
 use Rattle.pim_rows.specs.Kept.{kept_of}
 use Rattle.pim_rows.proofs.Starting.{nothing_waits, nothing_is_blocked, nothing_is_owned, no_starts}
 use Rattle.pim_rows.proofs.Appended.{puts_none}

@@ -3,7 +3,7 @@ use Rattle.std.proofs.Common.{length, nat_lt, flat_map}
 use Rattle.pim_world.specs.Worlds.{World}
 use Rattle.pim_rows.specs.Moments.{now}
 use Rattle.pim_rows.specs.OpenWaits.{IsUntil}
-use Rattle.pim_rows.specs.Puts.{Puts}
+use Rattle.pim_rows.specs.Ending.{Puts}
 use Rattle.pim_rows.specs.Rows.{text_of, by_number, lasting_wait, lasting_block, section_row}
 use Rattle.pim_rows.specs.Rows.{nests_row, deadlock_rows}
 use Rattle.pim_rows.specs.Runs.{levels_of}

@@ -7,14 +7,14 @@ use Rattle.pim_world.specs.Held.{world_of, touched_of}
 use Rattle.pim_world.specs.Touching.{declares}
 use Rattle.pim_waits.specs.Touched.{Touches}
 use Rattle.pim_rows.specs.AllOpen.{AreUntil, AreSame, ended_times}
-use Rattle.pim_rows.specs.Before.{IsBefore}
+use Rattle.pim_rows.specs.Tracking.{IsBefore}
 use Rattle.pim_rows.specs.Found.{actor, mutex_of, asked_mutex, of_fact}
 use Rattle.pim_rows.specs.Moments.{now, followed_by}
 use Rattle.pim_rows.specs.declared.runs.RunChange.{RunChange}
 use Rattle.pim_rows.specs.Runs.{AreChanges, change_of}
 use Rattle.pim_rows.specs.Levels.{IsUnrun, MayChange, moves_all, with_levels}
 use Rattle.pim_rows.specs.Kept.{kept_of}
-use Rattle.pim_rows.specs.Puts.{Puts}
+use Rattle.pim_rows.specs.Ending.{Puts}
 use Rattle.pim_rows.specs.Rows.{ended_rows, by_number}
 use Rattle.pim_rows.proofs.Opening.{until_after}
 use Rattle.pim_rows.proofs.RunChanges.{IsEven-after}

@@ -6,8 +6,7 @@ use Rattle.pim_waits.specs.Waiting.{gets}
 use Rattle.pim_world.specs.Worlds.{World}
 use Rattle.pim_world.specs.After.{after, set}
 use Rattle.pim_rows.specs.Moments.{now, followed_by}
-use Rattle.pim_rows.specs.Episodes.{grant_line}
-use Rattle.pim_rows.specs.Begun.{WaitStart, wait_start, wait_at}
+use Rattle.pim_rows.specs.Begun.{grant_line, WaitStart, wait_start, wait_at}
 use Rattle.pim_rows.specs.Kept.{kept_of}
 use Rattle.pim_rows.proofs.Following.{waits_followed}
 use Rattle.pim_rows.proofs.wait_starts.WaitStarts.follow.Goals as goal
