@@ -7,10 +7,11 @@ import sys
 
 from facts_text import Facts
 from findings import Findings
-from other_programs import Progress, facts_of, rows_of
+from other_programs import Progress, facts_of, rows_of, spans_of
 from program import Fault, Parser, exit_with, version
 from recording import Recording
 from rows_text import Rows
+from spans_text import Spans
 from terminal import MOST, Terminal
 from words import nanoseconds_of
 
@@ -40,8 +41,8 @@ that is.
                        facts after each of them
       --from TIME      begin the trace at TIME, with the state of that time
       --to TIME        end the trace at TIME: it has up to 256 threads, 256 mutexes, 65,536 steps
-      --findings COMMAND   what makes rows of facts. Without it, pim-findings is looked for next to
-                       pim-report, and on PATH
+      --findings COMMAND   what makes rows of facts, and spans for a page or tracks. Without it,
+                       pim-findings is looked for next to pim-report, and on PATH
       --converter COMMAND  what makes facts of a recording; without it, pim-facts
       --judge COMMAND  what judges a trace; without it, pim
   -h, --help           this text
@@ -159,15 +160,16 @@ def report(given):
     """Writes what is asked for. Returns the status."""
     data = read(given)
     rows = rows_of(data, given.findings)
+    spans = spans_of(data, given.findings) if given.html or given.perfetto else ""
     with Progress("making the report"):
         recording = Recording(Facts(data), Rows.read(rows), given.thread, given.mutex, given.since,
                               began_of(given.recording))
-        findings = Findings(recording)
+        findings, spans = Findings(recording), Spans.read(spans)
         if given.html:
-            write_page(given, findings)
+            write_page(given, findings, spans)
         if given.perfetto:
             from perfetto import write_perfetto
-            write_perfetto(given.perfetto, recording)
+            write_perfetto(given.perfetto, recording, spans)
         text = text_of(given, findings)
     write(text)
     if given.trace:
@@ -185,11 +187,12 @@ def text_of(given, findings):
     return Terminal(findings, is_coloured, most, given.all_mutexes).text()
 
 
-def write_page(given, findings):
+def write_page(given, findings, spans):
     from html_page import page_of
     name = os.fsencode(pathlib.Path(given.recording or given.facts).name)
     title = name.decode(errors="replace")
-    page = page_of("standard input" if given.facts == "-" else title, findings, given.all)
+    title = "standard input" if given.facts == "-" else title
+    page = page_of(title, findings, spans, given.all)
     try:
         pathlib.Path(given.html).write_text(page, encoding="utf-8")
     except OSError as fault:

@@ -34,10 +34,10 @@ def modules(name, done=None):
 class PageData:
     """What the page shows: words, and threads by their lanes."""
 
-    def __init__(self, title, findings, keep_all):
+    def __init__(self, title, findings, spans, keep_all):
         self.title, self.findings, self.facts = title, findings, findings.facts
         self.names, self.rows = findings.names, findings.recording.all_rows
-        self.stretches = Stretches(self.facts)
+        self.stretches = Stretches(self.facts, spans)
         top = {number: self.facts.highest(number) for number in self.facts.threads}
         # The most urgent thread is the first lane.
         self.lanes, self.top = sorted(top, key=lambda thread: -top[thread]), top
@@ -88,11 +88,11 @@ class PageData:
         }
 
 
-def page_of(title, findings, keep_all=False):
+def page_of(title, findings, spans, keep_all=False):
     """Returns the page."""
     first, *others = Verdict(findings).sentences()
     others.append(findings.recording.choice.said())
-    value = PageData(title, findings, keep_all).value()
+    value = PageData(title, findings, spans, keep_all).value()
     parts = {
         "title": escape(title), "state": findings.state, "size": escape(findings.size()),
         "verdict": escape(first),

@@ -34,7 +34,7 @@ class ModelWorld(FactsWorld):
             values = getattr(other, name)
             setattr(self, name, {one: values[one] for one in values if one in kept})
         for mutex, thread in self.owner.items():
-            self.owned[thread][mutex] = other.owned[thread][mutex]
+            self.owned[thread].add(mutex)
             if mutex in other.waiting:
                 self.waiting[mutex] = dict(other.waiting[mutex])
 
@@ -69,12 +69,6 @@ class ModelWorld(FactsWorld):
             self.ceiling[mutex] = int(words[4])
             if mutex in self.owner:
                 self.changed(self.owner[mutex])
-
-    def blocks(self, _, thread, words):
-        pass
-
-    def resumes(self, _, thread, words):
-        pass
 
     # ---- what they change
 

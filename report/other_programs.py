@@ -8,6 +8,7 @@ import sys
 import threading
 
 from program import NAME, Fault, say
+from spans_text import WORDS
 
 HERE = pathlib.Path(__file__).resolve().parent
 # Where they are next to this folder's programs: in one folder, or in this repository.
@@ -47,6 +48,7 @@ class Progress:
         """Writes what another program says, in place of what is shown. It speaks for pim."""
         self.clear()
         say(f"{NAME}{line[3:]}" if line.startswith("pim: ") else line)
+        return line
 
 
 def words_of(given, option):
@@ -81,18 +83,18 @@ def started(command, data, errors):
         raise Fault(f"{command[0]}: {fault.strerror}") from fault
 
 
-def run(command, what, data=None):
-    """Returns the status and the output of a command, and whether it said why that is so.
+def run(command, what, data=None, is_quiet=False):
+    """Returns the status and the output of a command, and its lines of standard error.
 
-    What it writes to standard error is passed on as it comes: it may have to be built first.
+    These are passed on as they come, unless it is quiet: it may have to be built first.
     """
     reads, writes = os.pipe()
     with open(reads, errors="replace", newline="") as errors, Progress(what) as progress:
         with open(writes, "wb") as end:
             child = started(command, data, end)
         said = []
-        thread = threading.Thread(target=lambda: said.extend(map(progress.pass_on, errors)),
-                                  daemon=True)
+        thread = threading.Thread(daemon=True, target=lambda: said.extend(
+            errors if is_quiet else map(progress.pass_on, errors)))
         thread.start()
         try:
             out, _ = child.communicate(data)
@@ -100,7 +102,7 @@ def run(command, what, data=None):
             child.kill()  # the thread listens until it has ended
             raise
         thread.join()
-    return child.returncode, out, bool(said)
+    return child.returncode, out, said
 
 
 def facts_of(recording, given):
@@ -121,3 +123,19 @@ def rows_of(facts, given):
     if not out.endswith(b"\n") or b"end " not in out[-200:]:
         raise Fault(f"{command[0]} wrote no rows")
     return out.decode("ascii", "replace")
+
+
+def spans_of(facts, given):
+    """Returns the spans of a text of facts, of which there are rows."""
+    command = [*command_of("pim-findings", given, "--findings"), "--spans"]
+    status, out, said = run(command, "looking for when", facts, is_quiet=True)
+    if status and any("--spans" in line for line in said):
+        raise Fault(f"{command[0]} doesn't know --spans, by which a page and tracks are made")
+    if status not in (0, 1):
+        say("".join(said))
+        raise Fault("" if said else f"{command[0]} wrote no spans, with status {status}")
+    text = out.decode("ascii", "replace")
+    words = {line.partition(" ")[0] for line in text.splitlines()}
+    if status or out[-1:] not in (b"", b"\n") or not words.issubset(WORDS):
+        raise Fault(f"{command[0]} wrote something else than spans")
+    return text

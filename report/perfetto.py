@@ -1,24 +1,25 @@
 """A recording as tracks over time: Trace Event JSON, which ui.perfetto.dev opens.
 
 A group of tracks is a process of that format, and a track is a thread of it. What lasted no time
-isn't there. Rows say when threads waited, and facts what lasted besides.
+isn't there. Rows and spans say what lasted. Only why a thread was boosted, and at which level it
+ran, is found in the facts here.
 """
 import functools
 import json
 import pathlib
 from collections import defaultdict
 
+from facts_world import FactsWorld
 from pack import parts_of, rows_of
 from program import Fault
 from rows_text import FAILED, GIVEN, TIMED_OUT
-from stretches import Stretches
 from words import place_and_function
 
 BOOSTED, WAITS, OWNS = 1, 2, 3  # the order of the tracks of a thread
 ENDS = {TIMED_OUT: "timed out", FAILED: "failed"}
 
 
-class Lasting(Stretches):
+class Lasting(FactsWorld):
     """`boosts` has by thread (begin, end, what it gets, its level, mutex, the waiter or 0), and
     `ran` by CPU (begin, end, thread, level)."""
 
@@ -26,16 +27,22 @@ class Lasting(Stretches):
         self.boosts, self.boosted = defaultdict(list), {}
         self.ran, self.running, self.kernel = defaultdict(list), {}, {}
         super().__init__(facts)
-
-    def end(self):
-        super().end()
+        self.acts.update({b"runs": self.runs, b"on": self.put_on, b"off": self.put_off})
+        for number, line in enumerate(facts.lines[1:], 2):
+            self.apply(number, line)
+            if b" lost " in line and line.split(b" ", 2)[1] == b"lost":
+                self.lost()
+        self.lost()
         for thread in list(self.boosted):
             self.end_boost(thread)
 
     # ---- what boosts a thread
 
+    def changed(self, *threads):
+        for one in super().changed(*threads):
+            self.look_at_level(one)
+
     def look_at_level(self, thread):
-        super().look_at_level(thread)
         why = self.reason_of(thread)
         if self.boosted.get(thread, (0, None))[1] != why:
             self.end_boost(thread)
@@ -75,12 +82,10 @@ class Lasting(Stretches):
         self.kernel[thread] = int(words[3])
         self.look_at_cpu(thread)
 
-    def put_on(self, number, thread, words):
-        super().put_on(number, thread, words)
+    def put_on(self, _, thread, words):
         self.running[thread] = self.now, int(words[3]), self.level_on(thread)
 
-    def put_off(self, number, thread, words):
-        super().put_off(number, thread, words)
+    def put_off(self, _, thread, words):
         if thread in self.running:
             begin, cpu, level = self.running.pop(thread)
             if begin < self.now:
@@ -95,7 +100,9 @@ class Lasting(Stretches):
             self.running[thread] = self.now, cpu, self.level_on(thread)
 
     def lost(self):
-        super().lost()
+        """Which thread is on a CPU, and at which level, isn't known from here on."""
+        for thread in list(self.running):
+            self.put_off(0, thread, ())
         self.kernel.clear()
 
 
@@ -118,9 +125,10 @@ def fields(**values):
 class Tracks:
     """The events of a recording."""
 
-    def __init__(self, recording):
+    def __init__(self, recording, spans):
         self.facts, self.names, self.rows = recording.facts, recording.names, recording.all_rows
-        self.where, self.lasting = recording.where, Lasting(recording.facts)
+        self.where, self.spans = recording.where, spans
+        self.lasting = Lasting(recording.facts)
         self.group = {thread: at for at, thread in enumerate(self.facts.threads, 1)}
         self.cpus, self.tracks = len(self.group) + 1, 0
         self.flows = defaultdict(list)  # by the line of a grant the waits for that owner
@@ -185,7 +193,7 @@ class Tracks:
     def priorities(self, thread, group):
         """What a thread gets, as a counter."""
         changes = [(0, self.facts.threads[thread].level)]
-        for time, gets, _ in parts_of(self.lasting.levels.get(thread, ()), 3):
+        for time, gets, _ in parts_of(self.spans.levels.get(thread, ()), 3):
             if time == changes[-1][0]:
                 changes.pop()
             if not changes or changes[-1][1] != gets:
@@ -208,8 +216,7 @@ class Tracks:
 
     def owns(self, thread, group):
         """A slice is on the first track that is free. Flows end there."""
-        owns = sorted(own for own in parts_of(self.lasting.owns.get(thread, ()), 4)
-                      if own[0] < own[1])
+        owns = sorted(own for own in parts_of(self.spans.owns.get(thread, ()), 4))
         rows, tracks = rows_of([own[:2] for own in owns]), []
         for (begin, end, mutex, line), row in zip(owns, rows):
             if row == len(tracks):
@@ -242,7 +249,7 @@ class Tracks:
         owner = self.names.at(wait.owner, wait.owner_level) if wait.owner else "none"
         args = fields(owner=owner, at=self.where(wait.line), taken_at=self.where(wait.taken))
         yield self.slice(group, track, f"waits for {self.mutex(wait.mutex)}", stretch, args)
-        for begin, end, mutex, runner in self.lasting.late.get(wait.line, ()):
+        for begin, end, mutex, runner in self.spans.late.get(wait.line, ()):
             yield self.slice(group, track, f"inverted: held up by {self.names.thread(runner)}",
                              (begin, end), fields(mutex=self.names.mutex(mutex)))
         if wait.line in self.ends:
@@ -260,9 +267,9 @@ class Tracks:
         return f"{self.names.mutex(number)}{f' from {place_and_function(place)}' * bool(place)}"
 
 
-def write_perfetto(file, recording):
+def write_perfetto(file, recording, spans):
     try:
         with pathlib.Path(file).open("w", encoding="utf-8") as out:
-            out.writelines(Tracks(recording).lines())
+            out.writelines(Tracks(recording, spans).lines())
     except OSError as fault:
         raise Fault(f"{file}: {fault.strerror}") from fault

@@ -1,8 +1,9 @@
 """What programs say of texts of facts, by docs/FACTS.md and docs/ROWS.md.
 
-Plays the texts of suite/facts and those of the two pages on the plain implementation, and on pim-findings or the
-program that is given. Then looks whether the laws of ROWS.md hold in random texts.
+Plays the texts of suite/facts and those of the two pages on the plain implementations, and on pim-findings or the
+program that is given: rows, and with --spans spans. Then looks whether the laws of ROWS.md hold in random texts.
 """
+import collections
 import os
 import pathlib
 import re
@@ -18,6 +19,7 @@ sys.path.append(str(PLAIN))
 import laws
 import random_facts
 import rows
+import spans
 from world import MOST_THREADS
 
 SUITE, TEXTS = ROOT / "suite/facts", 150
@@ -50,6 +52,24 @@ def said(text):
     yield "rows.py", (status, out, err)
     status, out, err = answer([proved()], text)
     yield "pim-findings", (status, out.decode(), err.decode(errors="replace"))
+
+
+def said_in_window(text, since, until):
+    """Yields the name of each program, and what it says of the spans of a text in a window."""
+    out, err, status = spans.answer(text, since, until)
+    yield "spans.py", (status, out, err)
+    status, out, err = answer([proved(), "--spans", "--from", str(since), "--to", str(until)], text)
+    yield "pim-findings", (status, out.decode(), err.decode(errors="replace"))
+
+
+def cut(all_spans, since, until):
+    """Returns the lines of spans that are in a window, cut to it."""
+    found = ""
+    for line in all_spans.splitlines():
+        *said, begin, end = line.split()
+        begin, end = max(int(begin), since), min(int(end), until)
+        found += f"{' '.join(said)} {begin} {end}\n" if begin < end else ""
+    return found
 
 
 def status_of(found):
@@ -93,8 +113,46 @@ class Facts(Case):
             self.answers(f"invalid/{text.stem}", text.read_bytes(), (2, "", wanted))
         files = [path for path in SUITE.glob("**/*") if path.is_file()]
         texts_of_it = {path.with_suffix("") for path in files if path.suffix == ".facts"}
-        alone = texts_of_it ^ {path.with_suffix("") for path in files if path.suffix != ".facts"}
+        answers_of_it = {path.with_suffix("") for path in files if path.suffix in (".rows", ".error")}
+        alone = texts_of_it ^ answers_of_it
         self.check("each text of the suite has its answer", ", ".join(path.name for path in sorted(alone)))
+
+    def test_spans_of_the_suite(self):
+        """Plays the texts of suite/facts that have spans: all, and those of windows from and to each time at which one
+        of them begins or ends. Spans of a window are all of them, cut to it."""
+        for path in sorted(SUITE.glob("*.spans")):
+            text, wanted = path.with_suffix(".facts").read_bytes(), path.read_text()
+            times = sorted({int(time) for line in wanted.splitlines() for time in line.split()[-2:]})
+            windows = [*zip(times, times[1:]), *zip(times, times[2:])]
+            windows += [(times[0] + 1, times[-1] - 1)] if times else []
+            for since, until in [spans.ALWAYS, *windows]:
+                shown = cut(wanted, since, until) if (since, until) != spans.ALWAYS else wanted
+                for program, got in said_in_window(text, since, until):
+                    self.equal(f"{program}: spans of {path.stem} from {since} to {until}", got, (0, shown, ""))
+        for path in sorted(SUITE.glob("invalid/*.facts")):
+            wanted = path.with_suffix(".error").read_text()
+            for program, got in said_in_window(path.read_bytes(), *spans.ALWAYS):
+                self.equal(f"{program}: spans of invalid/{path.stem}", got, (2, "", wanted))
+
+    def test_spans_add_up_to_rows(self):
+        """In random texts the spans of a wait last as long as its rows say: all of it, and for how long it is inverted,
+        by mutex and runner, and stalled, by object and runner."""
+        broken = []
+        for seed in range(TEXTS):
+            for text in random_facts.texts_of(seed):
+                in_rows, in_spans = collections.Counter(), collections.Counter()
+                for word, *numbers in map(str.split, rows.answer(text)[0].splitlines()):
+                    if word == "wait":
+                        line, thread, mutex, lasted = (numbers[at] for at in (0, 2, 3, 5))
+                        in_rows["waits", thread, mutex, line] += int(lasted)
+                    elif word in ("inverted", "stalled"):
+                        in_rows[word, *numbers[:3]] += int(numbers[-1])
+                for word, *said_of_it, begin, end in map(str.split, spans.answer(text)[0].splitlines()):
+                    if word in ("waits", "inverted", "stalled"):
+                        in_spans[word, *said_of_it] += int(end) - int(begin)
+                if +in_rows != in_spans:
+                    broken.append(f"seed {seed}")
+        self.check(f"spans of {TEXTS} random texts add up to their rows", "; ".join(broken[:3]))
 
     def test_most_threads(self):
         """A text may have so many threads, and no more."""
@@ -120,6 +178,9 @@ class Facts(Case):
         wanted = status_of(shown), shown, ""
         self.answers("the example of ROWS.md", text.encode(), wanted)
         self.answers("the example of FACTS.md", blocks_of(facts)[0].encode(), wanted)
+        shown = blocks_of(section_of(rows_page, "## Spans"))[0].partition("\n")[2]
+        for program, got in said_in_window(text.encode(), *spans.ALWAYS):
+            self.equal(f"{program}: the spans of ROWS.md", got, (0, shown, ""))
         anew = blocks_of(section_of(facts, "### Mutexes that are made again"))[0]
         text = f"facts 1\nthread 1 10 one\n{anew}"
         wanted = "section 1 1 10 1 0 7 0\nsection 1 94352 10 1 50 4 50\nend 7 60 0 0 0\n"
@@ -227,3 +288,17 @@ class Facts(Case):
         status, out, err = answer([*made, "--rows"])
         got = status, out, b"--rows" in err
         self.equal("an option that there isn't", got, (2, b"", True))
+
+    def test_windows_that_cannot_be(self):
+        """A window that can't be one has a fault that names its option, and nothing is written."""
+        for words, option in (
+                ("--spans --from", b"--from"), ("--spans --to", b"--to"), ("--spans --from 5x", b"--from"),
+                ("--spans --from -1", b"-1"), ("--spans --to 18446744073709551616", b"--to"),
+                ("--from 5", b"--spans"), ("--to 5", b"--spans"), ("--spans --from 6 --to 5", b"--from is after --to")):
+            status, out, err = answer([proved(), *words.split()], b"facts 1\n")
+            got = status, out, option in err.partition(b"\n\n")[0]
+            self.equal(f"pim-findings {words}", got, (2, b"", True))
+        text = b"facts 1\nthread 1 30 high\n5 end\n"
+        for words in ("--from 5", "--from 3 --to 3", f"--from {2**64 - 1}"):
+            got = answer([proved(), "--spans", *words.split()], text)
+            self.check(f"a window without spans: {words}", difference(got, (0, b"", b"")))

@@ -9,15 +9,16 @@ import re
 import shutil
 
 from tests.cases import Case
-from tests.report.texts import SUITE, PERIODS, found_in, large
+from tests.report.texts import SUITE, PERIODS, found_in, large, large_spans, page_of
 from tests.shared.checks import ROOT, answer, difference
 from facts_text import Facts
 from findings import Findings
-from html_page import page_of
+import html_page
 from json_report import json_of
 import pack
 from recording import Recording
 from rows_text import Rows
+from spans_text import Spans
 from words import duration, shares
 
 PAGE = ROOT / "report/page"
@@ -27,16 +28,19 @@ def write_pages(folder):
     """Writes the pages of the suite, of a text of no threads, and of a large one."""
     for file in [*sorted(SUITE.glob("*.facts")), None]:
         found = found_in(file.read_bytes() if file else b"facts 1\n")[0]
-        write_page(folder, file.stem if file else "nothing", found)
+        name = file.stem if file else "nothing"
+        write_page(folder, name, found, page_of(name, found))
     for name, periods, most in (("large", PERIODS, pack.MOST_ITEMS), ("windows", 400, 1_000)):
         facts, rows = large(periods)
         kept, pack.MOST_ITEMS = pack.MOST_ITEMS, most
-        write_page(folder, name, Findings(Recording(Facts(facts), Rows.read(rows))))
+        found = Findings(Recording(Facts(facts), Rows.read(rows)))
+        page = html_page.page_of(name, found, Spans.read(large_spans(periods)))
+        write_page(folder, name, found, page)
         pack.MOST_ITEMS = kept
 
 
-def write_page(folder, name, found):
-    (folder / f"{name}.html").write_text(page_of(name, found), encoding="utf-8")
+def write_page(folder, name, found, page):
+    (folder / f"{name}.html").write_text(page, encoding="utf-8")
     (folder / f"{name}.json").write_text(json_of(found), encoding="utf-8")
 
 

@@ -8,13 +8,13 @@ import zlib
 from collections import Counter, defaultdict
 
 from tests.cases import Case
-from tests.report.texts import SUITE, all_findings, found_in, large, random_findings, said
+from tests.report.texts import (
+    SUITE, all_findings, found_in, large, large_spans, page_of, random_findings, said, spans, spans_of)
 from tests.shared.checks import ROOT
 from asleep import Sleeps
 from bounds import Bounds
 from facts_text import Facts
 from findings import Findings
-from html_page import page_of
 from json_report import json_of
 from lines import line_of, lines_of
 import pack
@@ -207,13 +207,29 @@ def sections_of(packed, data, value):
     return found
 
 
-def sections_wanted(value):
-    found = {}
+def sections_wanted(value, text):
+    """Returns the same of rows. What lasted no time isn't on the page."""
+    found = {key: (-count, 0) for key, count in owned_for_no_time(text).items()}
     for one in value["sections"]:
         count, longest = found.get((one["thread"], one["mutex"]), (0, 0))
         found[one["thread"], one["mutex"]] = (
             count + one["count"], max(longest, one["longest"]))
-    return found
+    return {key: one for key, one in found.items() if one != (0, 0)}
+
+
+def owned_for_no_time(text):
+    """Returns by thread and mutex how often that was so, by the plain world."""
+    found, begun, world = Counter(), {}, World()
+    for line in map(line_of, lines_of(text)[1:]):
+        world.time_passes(line)
+        owner = world.owner.get(line.mutex)
+        world.apply(line)
+        if owner is None and line.mutex in world.owner:
+            begun[line.mutex] = world.clock
+        elif owner and line.mutex not in world.owner:
+            found[owner, line.mutex] += begun[line.mutex] == world.clock
+    found.update((owner, mutex) for mutex, owner in world.owner.items() if begun[mutex] == world.clock)
+    return +found
 
 
 def blocked_of(packed):
@@ -245,7 +261,7 @@ def page_difference(one):
     packed = Packed(data)
     if sorted(waits_of(packed, data, value)) != sorted(waits_wanted(value)):
         return "waits"
-    if sections_of(packed, data, value) != sections_wanted(value):
+    if sections_of(packed, data, value) != sections_wanted(value, one.facts.data):
         return "sections"
     if blocked_of(packed) != blocked_wanted(value):
         return "blocked"
@@ -489,7 +505,7 @@ class Forms(Case):
                     gets[thread][world.gets(thread), world.level[thread]] += stretch
                     on[thread] += stretch * world.is_on(thread)
                 world.apply(line)
-            shown = Stretches(one.facts)
+            shown = Stretches(one.facts, spans_of(one.facts))
             for thread, declared in one.facts.threads.items():
                 column = shown.levels.get(thread, [])
                 changes = [(column[at], tuple(column[at + 1:at + 3]))
@@ -502,6 +518,10 @@ class Forms(Case):
                 wrong += [] if got == +gets[thread] else [f"{seed}: what {thread} gets"]
                 wrong += [] if time == on[thread] else [f"{seed}: when {thread} is on a CPU"]
         self.check("what threads get, and when they have a CPU", ", ".join(wrong[:5]))
+
+    def test_spans_of_many_facts(self):
+        """The spans that are written here for a large text are those of the plain definitions."""
+        self.check("the spans of a large text", None if spans.answer(large(20)[0])[0] == large_spans(20) else "others")
 
     def test_who_slept(self):
         """By a plain reading threads were asleep for as long. Time passes by the lines read."""
@@ -557,7 +577,7 @@ class Forms(Case):
             if not one.all or one.recording.all_rows.ended < 9:
                 continue
             data, value = data_of(page_of("title", one)), json.loads(json_of(one))
-            packed, every = Packed(data), Stretches(one.facts)
+            packed, every = Packed(data), spans_of(one.facts)
             if data["windows"] is None:
                 continue
             threads = {one["called"]: one["number"] for one in value["threads"]}

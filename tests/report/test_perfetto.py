@@ -5,11 +5,10 @@ from collections import Counter, defaultdict
 from decimal import Decimal
 
 from tests.cases import Case
-from tests.report.texts import random_findings
+from tests.report.texts import random_findings, tracks_of
 from tests.shared.checks import difference
 from facts_text import Facts
 from lines import line_of, lines_of
-from perfetto import Tracks
 from recording import Recording
 import rows
 from rows_text import Rows
@@ -192,7 +191,7 @@ def number(value):
 def file_of(text):
     """Returns the file of some facts."""
     recording = Recording(Facts(text), Rows.read(rows.answer(text)[0]))
-    return File("".join(Tracks(recording).lines()))
+    return File(tracks_of(recording))
 
 
 # ---- random facts, by the plain world

@@ -14,19 +14,17 @@ import sys
 import time
 
 from tests.cases import Case
-from tests.report.texts import (PLAIN, PROGRAM, REPORT, SUITE, crowd, found_in, large, random_findings, said,
-                                suite_findings)
+from tests.report.texts import (PLAIN, PROGRAM, REPORT, SUITE, crowd, found_in, large, page_of, random_findings, said,
+                                suite_findings, tracks_of)
 from tests.shared.checks import ROOT, answer, difference
 import command
 from command import arguments
 from facts_text import Facts
 from findings import Findings
-from html_page import page_of
+from perfetto import Lasting
 from json_report import json_of
-from perfetto import Tracks
 from recording import Recording
 from rows_text import Rows
-from stretches import Stretches
 from terminal import WIDTH, Terminal
 
 CHAIN, CEILING = SUITE / "chain.facts", SUITE / "ceiling.facts"
@@ -213,6 +211,18 @@ class Report(Case):
                               ("sh -c 'exit 5'", "sh found nothing, with status 5")):
             got = said("--facts", CHAIN, findings=words)
             self.equal(f"--findings '{words}'", got, (2, "", f"pim-report: {wanted}\n"))
+        rows = f"exec {sys.executable} {ROOT / 'tests/facts/plain/rows.py'}"
+        for name, text, wanted in (
+                ("an older one", 'echo "error: unexpected argument \'--spans\' found" >&2; echo >&2; exit 2',
+                 "pim-report: {} doesn't know --spans, by which a page and tracks are made\n"),
+                ("one that ignores it", rows, "pim-report: {} wrote something else than spans\n"),
+                ("one that says nothing", "exit 3", "pim-report: {} wrote no spans, with status 3\n"),
+                ("one that says why", 'echo "pim-findings: no memory" >&2; exit 2', "pim-findings: no memory\n")):
+            findings = pathlib.Path(self.folder) / "findings"
+            script(findings, f'[ $# = 0 ] && {rows}\n{text}')
+            for option in ("--html", "--perfetto"):
+                got = said("--facts", CHAIN, option, os.devnull, findings=str(findings))
+                self.equal(f"{option}: {name}", got, (2, "", wanted.format(findings)))
 
     def test_programs_are_found(self):
         """pim-findings and pim-facts are found next to pim-report, or on PATH."""
@@ -248,7 +258,7 @@ class Report(Case):
         self.equal("--html", (file.read_text(encoding="utf-8"),), (wanted,))
         file = pathlib.Path(self.folder) / "chain.json"
         got = said("--facts", CHAIN, "--perfetto", file)
-        wanted = "".join(Tracks(found_in(CHAIN.read_bytes())[0].recording).lines())
+        wanted = tracks_of(found_in(CHAIN.read_bytes())[0].recording)
         self.check("--perfetto", difference((*got, file.read_text()), (
             1, CHAIN.with_suffix(".txt").read_text(), "", wanted)))
         trace, text = pathlib.Path(self.folder) / "one.pim", b"facts 1\nthread 1 9 a\nmutex 1 none m\n0 1 granted 1\n"
@@ -387,6 +397,6 @@ class Report(Case):
         took, most = time.process_time() - begin, 6 * facts.count(b"\n") / 10**6
         self.check("65,000 facts with 5,000 waits", None if took < most else f"{took:.2f} s of {most:.2f}")
         begin = time.process_time()
-        Stretches(Facts(crowd(30)))
+        Lasting(Facts(crowd(30)))
         took = time.process_time() - begin  # 0.35 s, or 5.3 s if each line looks at all waits
         self.check("5,600 facts of 63 threads and one mutex", None if took < 3 else f"{took:.2f} s of 3")

@@ -6,15 +6,19 @@ from tests.shared.checks import ROOT, answer
 
 REPORT, SUITE = ROOT / "report", ROOT / "suite/reports"
 sys.path += [str(REPORT), str(ROOT / "tests/facts/plain")]
+import html_page  # noqa: E402
 import rows  # noqa: E402
+import spans  # noqa: E402
 from facts_text import Facts  # noqa: E402
 from findings import Findings  # noqa: E402
+from perfetto import Tracks  # noqa: E402
 from random_facts import RandomText  # noqa: E402
 from recording import Recording  # noqa: E402
 from rows_text import Rows  # noqa: E402
+from spans_text import Spans  # noqa: E402
 
 PROGRAM = str(REPORT / "pim-report")
-PLAIN = f"{sys.executable} {ROOT / 'tests/facts/plain/rows.py'}"
+PLAIN = f"{sys.executable} {ROOT / 'tests/report/plain_findings.py'}"
 TEXTS = 100
 PERIODS, FACTS = 5_000, 13  # and the facts of each
 
@@ -30,6 +34,22 @@ def found_in(text, **choice):
     """Returns the findings of a valid text, and its rows."""
     out, _, _ = rows.answer(text)
     return Findings(Recording(Facts(text), Rows.read(out), **choice)), out
+
+
+@functools.lru_cache(maxsize=None)
+def spans_of(facts):
+    """Returns the spans of some facts."""
+    return Spans.read(spans.answer(facts.data)[0])
+
+
+def page_of(title, found, **options):
+    """Returns the page of some findings."""
+    return html_page.page_of(title, found, spans_of(found.facts), **options)
+
+
+def tracks_of(recording):
+    """Returns the tracks of a recording."""
+    return "".join(Tracks(recording, spans_of(recording.facts)).lines())
 
 
 @functools.lru_cache(maxsize=None)
@@ -71,6 +91,19 @@ def large(periods=PERIODS):
         gone = begin + 8_300
     rows.append(f"end {len(facts)} {gone} {periods} {periods} 0")
     return ("\n".join(facts) + "\n").encode(), "\n".join(rows) + "\n"
+
+
+def large_spans(periods=PERIODS):
+    """Returns the spans of these facts."""
+    gets, owns, waits, late = [], [], [], []
+    for at in range(periods):
+        begin, line, lasted = at * 10_000, 6 + FACTS * at, 1_000 + 7 * (at * 37 % 613)
+        waited, until = begin + 500, begin + 500 + lasted
+        owns += [f"owns 2 1 {line} {begin} {until}", f"owns 1 1 {line + 3} {until} {begin + 8_000}"]
+        waits.append(f"waits 1 1 {line + 1} {waited} {until}")
+        late.append(f"inverted {line + 1} 1 2 {waited} {until}")
+        gets = [f"gets {thread} {level} {level} 0 {begin + 8_300}" for thread, level in ((1, 30), (2, 10))]
+    return "".join(f"{line}\n" for line in [*gets, *owns, *waits, *late])
 
 
 def crowd(rounds):

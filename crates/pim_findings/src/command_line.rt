@@ -3,6 +3,18 @@
 use clap::{Arg, ArgAction, Command, Error};
 use std::alloc::{AllocError, Global};
 
+/// What the arguments ask for.
+#[derive(Clone, Copy)]
+pub(crate) struct Arguments<'a> {
+    /// The file of the facts, if they aren't on standard input.
+    pub(crate) file: Option<&'a str>,
+    /// Whether to write spans in place of rows.
+    pub(crate) spans: bool,
+    /// Where the window of time begins and ends, if that is given.
+    pub(crate) from: Option<u64>,
+    pub(crate) to: Option<u64>,
+}
+
 /// The text below the options in `--help`.
 const MORE: &str = "\
 Facts are what happened to the threads and mutexes of a program, one a line, as any recorder can write them:
@@ -32,16 +44,18 @@ A row is a word and numbers. Row 1 says that the wait of line 6 lasted to line 8
 on, for 2499000 ns. Row 2 says that it was inverted for all of that: thread 2 had to run, at level 10, and mutex 1
 didn't pass the 30 of thread 1 on to it. Row 5 counts lines, waits, inverted waits and deadlocks.
 
-docs/FACTS.md says exactly which texts are facts, and docs/ROWS.md which rows follow.
+docs/FACTS.md says exactly which texts are facts, and docs/ROWS.md which rows and which spans follow.
+
+With --spans it writes spans in place of rows: what each thread got, which mutex it owned and awaited, and when it was
+inverted or stalled, each from one time to another. --from and --to cut them to a window of time.
 
 Without FILE the facts are on standard input. Rows go to standard output, faults to standard error.
-Exit status: 0 no wait was inverted and there is no deadlock at the end, 1 otherwise, 2 any fault:
+Exit status: 0 no wait was inverted and there is no deadlock at the end, 1 otherwise, always 0 for spans, 2 any fault:
 'pim-findings: line <n>: <why>' where line n is the first that is invalid, 'pim-findings: read' or 'pim-findings: write'
-where that failed, 'pim-findings: memory' when out of memory; or a wrong command line. If a line is invalid no row is
-written.";
+where that failed, 'pim-findings: memory' when out of memory; or a wrong command line. If a line is invalid no row
+or span is written.";
 
-/// Returns the path of the file that the arguments name, or `None` if they name none. The first
-/// argument is the program's name.
+/// Returns what the arguments ask for. The first argument is the program's name.
 ///
 /// # Errors
 ///
@@ -50,9 +64,14 @@ written.";
 pub(crate) fn parse_arguments<'a>(
     alloc: Global,
     words: &'a [&'a str],
-) -> Result<Option<&'a str>, Error> {
+) -> Result<Arguments<'a>, Error> {
     let matches = pim_findings(alloc)?.try_get_matches_from(words)?;
-    Ok(matches.get_str("file"))
+    Ok(Arguments {
+        file: matches.get_str("file"),
+        spans: matches.get_flag("spans"),
+        from: matches.get_one("from"),
+        to: matches.get_one("to"),
+    })
 }
 
 /// Returns the program's command line.
@@ -61,13 +80,32 @@ fn pim_findings<'a>(alloc: Global) -> Result<Command<'a>, AllocError> {
         .value_name("FILE")
         .help("A text of facts; standard input if it isn't given")
         .action(ArgAction::Set);
+    let spans = Arg::new(alloc, "spans")
+        .long("spans")
+        .help("Write spans in place of rows")
+        .action(ArgAction::SetTrue);
+    let from = Arg::new(alloc, "from")
+        .long("from")
+        .value_name("TIME")
+        .help("Cut off what is before this time, in nanoseconds; with --spans")
+        .value_parser(clap::value_parser!(u64))
+        .requires_arg("spans")?;
+    let to = Arg::new(alloc, "to")
+        .long("to")
+        .value_name("TIME")
+        .help("Cut off what is after this time, at least that of --from; with --spans")
+        .value_parser(clap::value_parser!(u64))
+        .requires_arg("spans")?;
     Command::new(alloc, "pim-findings")
         .about(
             "Say what follows from facts: how long threads waited, \
             and which waits a low thread made longer",
         )
-        .override_usage("pim-findings [FILE]")
+        .override_usage("pim-findings [--spans [--from TIME] [--to TIME]] [FILE]")
         .version("0.2.0")
         .after_help(MORE)
-        .arg(file)
+        .arg(file)?
+        .arg(spans)?
+        .arg(from)?
+        .arg(to)
 }

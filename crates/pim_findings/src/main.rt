@@ -1,21 +1,24 @@
 //! The program `pim-findings`: says what follows from a text of facts.
 //!
-//! It passes standard input or a file, and standard output, to `print_findings`, which reads the
-//! text and writes its rows. Its contract says what is written: `pim_rows` finds it, and all of
-//! that is proved. `main` has only what no contract can say: the streams, the texts and the
-//! process.
+//! It passes standard input or a file, and standard output, to `print_findings` or `print_spans`,
+//! which read the text and write its rows or its spans. Their contracts say what is written:
+//! `pim_rows` and `pim_spans` find it, and all of that is proved. `main` has only what no contract
+//! can say: the streams, the texts and the process.
 #![tactic(auto)]
 
 mod command_line;
 mod fault;
 mod printing;
+mod spans;
 mod transfer;
 
-use crate::command_line::parse_arguments;
+use crate::command_line::{Arguments, parse_arguments};
 use crate::fault::Fault;
 use crate::printing::print_findings;
+use crate::spans::print_spans;
 use clap::error::ErrorKind;
 use pim_page::{Input, Output, Source};
+use pim_spans::Window;
 use std::fmt::Display;
 use std::process::ExitCode;
 use std::rt::Files;
@@ -51,11 +54,7 @@ fn work(rt: &HostRuntime) -> io::Result<u8> {
     let arguments: Vec<String> = env::args(rt)?.collect(alloc)?;
     let words: Vec<&str> = arguments.iter().map(|word| word.as_str()).collect(alloc)?;
     match parse_arguments(alloc, words.as_slice()) {
-        Ok(None) => print(rt, &mut Input::new(rt.reader())),
-        Ok(Some(path)) => match fs::open(rt, path) {
-            Ok(file) => print(rt, &mut Input::new(file)),
-            Err(_) => report(rt, format_args!("{path}: it can't be read")),
-        },
+        Ok(arguments) => answer(rt, &arguments),
         Err(error) if error.kind() == ErrorKind::OutOfMemory => report(rt, Fault::Memory),
         Err(error) => {
             error.print(rt)?;
@@ -64,10 +63,38 @@ fn work(rt: &HostRuntime) -> io::Result<u8> {
     }
 }
 
-/// Writes the rows of a text, or its fault. Returns the exit status.
-fn print<R: Source>(rt: &HostRuntime, reader: &mut R) -> io::Result<u8> {
+/// Writes what the arguments ask for. Returns the exit status.
+fn answer(rt: &HostRuntime, arguments: &Arguments<'_>) -> io::Result<u8> {
+    let window = Window {
+        from: arguments.from.unwrap_or(0),
+        until: arguments.to.unwrap_or(u64::MAX),
+    };
+    if window.until < window.from {
+        return report(rt, "--from is after --to");
+    }
+    match arguments.file {
+        None => print(rt, &mut Input::new(rt.reader()), arguments.spans, window),
+        Some(path) => match fs::open(rt, path) {
+            Ok(file) => print(rt, &mut Input::new(file), arguments.spans, window),
+            Err(_) => report(rt, format_args!("{path}: it can't be read")),
+        },
+    }
+}
+
+/// Writes the rows or the spans of a text, or its fault. Returns the exit status.
+fn print<R: Source>(
+    rt: &HostRuntime,
+    reader: &mut R,
+    spans: bool,
+    window: Window,
+) -> io::Result<u8> {
     let mut writer = Output::new(io::writer(rt));
-    match print_findings(rt.alloc(), reader, &mut writer) {
+    let result = if spans {
+        print_spans(rt.alloc(), reader, &mut writer, window)
+    } else {
+        print_findings(rt.alloc(), reader, &mut writer)
+    };
+    match result {
         Ok(status) => Ok(status),
         Err(fault) => report(rt, fault),
     }
