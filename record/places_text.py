@@ -49,14 +49,14 @@ class Places:
             self.objects = objects_in(data, log.head.header_bytes)
         self.calls = initialising(reader, log.records)
         self.addresses = {at: address for at, address in enumerate(log.places, 1) if address}
-        self.modules = [(record.object, os.fsdecode(record.text))
+        self.modules = [(record.object, os.fsdecode(record.text), reader.bytes_of(record) or sys.maxsize)
                         for record in log.records if record.event == reader.MODULE]
-        self.objects -= {begin for begin, _ in self.modules}
+        self.objects -= {begin for begin, *_ in self.modules}
 
     def module_of(self, address):
         """Returns the path of a file and the offset there of an address, or None."""
-        begin, path = max((it for it in self.modules if it[0] <= address), default=(0, None))
-        return (path, address - begin) if path else None
+        begin, path, length = max((it for it in self.modules if it[0] <= address), default=(0, None, 0))
+        return (path, address - begin) if path and address - begin < length else None
 
     def location(self, address):
         """Returns the path of a file and the offset there of the last byte of a call, or None."""

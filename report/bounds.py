@@ -83,35 +83,41 @@ class Bounds:
             most.append(max(used, most[-1] if most else 0))
         return levels, most
 
-    def without(self, thread, level, threads, mutexes):
-        """Returns the same two for a thread that used mutexes at a lower level of its own, too.
+    def changes(self, thread, level, threads, mutexes):
+        """Returns what differs for a thread that used mutexes at a lower level of its own, too.
 
         What leads from its mutexes is added, and what it used itself isn't counted.
         """
         own = {mutex for mutex, _ in self.own[thread]}
-        threads, mutexes, beyond = {**threads}, {**mutexes}, self.reached(own, mutexes)
-        threads.pop(thread, None)
+        by_thread, by_mutex, beyond = {thread: 0}, {}, self.reached(own, mutexes)
         for mutex in own | beyond:
             uses = [(one, used) for (one, at), used in self.users[mutex].items()
                     if at < level and one != thread]
-            mutexes[mutex] = max((used for _, used in uses), default=0)
+            by_mutex[mutex] = max((used for _, used in uses), default=0)
             for one, used in uses if mutex in beyond else ():
-                threads[one] = max(threads.get(one, 0), used)
-        return threads, mutexes
+                by_thread[one] = max(by_thread.get(one, threads.get(one, 0)), used)
+        return by_thread, by_mutex
 
     def at(self, level, threads, mutexes, at_level):
         """Yields the bounds of the threads of a level."""
-        def bound(threads, mutexes, used):
-            return (min(sum(threads.values()), sum(mutexes.values())),
-                    max(map(mutexes.get, used), default=0))
-
-        usual = bound(threads, mutexes, at_level)
+        sums = sum(threads.values()), sum(mutexes.values())
+        at_level, ranked = set(at_level), sorted(at_level, key=mutexes.get, reverse=True)
+        usual = min(sums), max(map(mutexes.get, ranked[:1]), default=0)
         for thread in self.of_level[level]:
             found = usual
             if any(at != level for _, at in self.own[thread]):
-                own = self.without(thread, level, threads, mutexes)
-                found = bound(*own, [*at_level, *(mutex for mutex, _ in self.own[thread])])
+                found = self.own_bounds(thread, level, (threads, mutexes), sums, ranked, at_level)
             yield Bound(thread, level, *found, self.waited[thread])
+
+    def own_bounds(self, thread, level, usual, sums, ranked, at_level):
+        """Returns the two bounds of a thread by what differs for it from what is usual."""
+        changes = self.changes(thread, level, *usual)
+        inherit = min(total + sum(used - had.get(one, 0) for one, used in changed.items())
+                      for total, had, changed in zip(sums, usual, changes))
+        own, changed = {mutex for mutex, _ in self.own[thread]}, changes[1]
+        rest = next((usual[1][mutex] for mutex in ranked if mutex not in changed), 0)
+        return inherit, max([rest, *(used for mutex, used in changed.items()
+                                     if mutex in own or mutex in at_level)])
 
     def all(self):
         """Returns the bounds of real-time threads that can be blocked, the most urgent first."""

@@ -2,6 +2,7 @@
 import argparse
 import os
 import pathlib
+import re
 import sys
 
 from facts_text import Facts
@@ -26,8 +27,10 @@ that is.
 
   -f, --facts FILE     read a text of facts in place of a recording
   -H, --html FILE      write a page too, which opens from the disk and needs no network
-  -j, --json           print JSON in place of the text; docs/JSON.md has its keys
+  -j, --json           print JSON in place of the text; docs/COMMANDS.md has its keys
   -a, --all            print all findings of each kind, and keep all facts in the page
+      --all-mutexes    print a table of all mutexes too: locks, how many had to wait, how long one
+                       was owned, waits, and where they were. JSON has it, too
   -n, --top N          print at most N findings of each kind: 10 if it isn't given
   -t, --thread NAME    show only what a thread has a part in. A number will do, too
   -m, --mutex NAME     show only what is of a mutex, or of a semaphore and the like
@@ -78,6 +81,7 @@ def arguments(words):
         parser.add_argument(short, f"--{name}")
     for short, name in (("-j", "json"), ("-a", "all")):
         parser.add_argument(short, f"--{name}", action="store_true")
+    parser.add_argument("--all-mutexes", action="store_true")
     parser.add_argument("-n", "--top", type=number_of)
     parser.add_argument("-s", "--since", type=time_of, default=0)
     for name in ("from", "to"):
@@ -101,12 +105,22 @@ def arguments(words):
 
 def spare_sources(given):
     """Refuses to write a file that is read."""
-    sources = [given.facts] if given.facts else [
-        f"{given.recording}{ending}" for ending in ("", ".kernel", ".places")]
+    sources = [given.facts] if given.facts else files_of(given.recording)
     there = [source for source in sources if os.path.exists(source)]
     for file in filter(None, (given.html, given.perfetto, given.trace)):
         if os.path.exists(file) and any(os.path.samefile(file, source) for source in there):
             raise Fault(f"{file} is read, and so isn't written")
+
+
+def files_of(recording):
+    """Returns the files that a recording may have: its own, and those of the programs that it
+    started, RECORDING.PROCESS and RECORDING.PROCESS.COUNT."""
+    folder, name = os.path.split(recording)
+    is_its = re.compile(re.escape(name) + r"(\.\d+){0,2}(\.kernel|\.places)?").fullmatch
+    try:
+        return [os.path.join(folder, file) for file in os.listdir(folder or ".") if is_its(file)]
+    except OSError:  # pim-facts says why
+        return []
 
 
 def window_of(given):
@@ -130,12 +144,24 @@ def read(given):
         raise Fault(f"{name}: {fault.strerror}") from fault
 
 
+def began_of(recording):
+    """Returns when a recording began, in nanoseconds since 1970, as the log's header has it."""
+    try:
+        with open(recording or os.devnull, "rb") as log:
+            header = log.read(64)
+    except OSError:  # as where only the kernel's events were recorded
+        return None
+    is_known = header[:6] == b"pimlog" and len(header) == 64
+    return int.from_bytes(header[56:], sys.byteorder) if is_known else None
+
+
 def report(given):
     """Writes what is asked for. Returns the status."""
     data = read(given)
     rows = rows_of(data, given.findings)
     with Progress("making the report"):
-        recording = Recording(Facts(data), Rows.read(rows), given.thread, given.mutex, given.since)
+        recording = Recording(Facts(data), Rows.read(rows), given.thread, given.mutex, given.since,
+                              began_of(given.recording))
         findings = Findings(recording)
         if given.html:
             write_page(given, findings)
@@ -153,10 +179,10 @@ def report(given):
 def text_of(given, findings):
     if given.json:
         from json_report import json_of
-        return json_of(findings)
+        return json_of(findings, given.all_mutexes)
     most = 10**9 if given.all else given.top or MOST
     is_coloured = sys.stdout.isatty() and "NO_COLOR" not in os.environ
-    return Terminal(findings, is_coloured, most).text()
+    return Terminal(findings, is_coloured, most, given.all_mutexes).text()
 
 
 def write_page(given, findings):

@@ -16,7 +16,7 @@ IS_PLACE = re.compile(r".*(:\d+|\+0x[0-9a-f]+)(\([^()]*\))?$|0x[0-9a-f]+$")
 # After how many words a line of this kind has its places.
 WORDS_BEFORE = {b"ceiling": 5, b"off": 4}
 HAVE_FOUR = [b"waits"], [b"granted"], [b"took"]
-OF_OWNERS = [b"granted"], [b"took"], [b"released"]
+OF_OWNERS = b"granted", b"took", b"released"
 
 
 def last_of(changes, line, first):
@@ -34,7 +34,7 @@ class Facts:
             self.lines.pop()
         self.threads, self.mutexes, self.objects, self.unseen = {}, {}, {}, []
         self.levels, self.ceilings, self.lost, declared = {}, {}, [], 0
-        self.owners = None
+        self.owners, self.clocks = None, None
         for word, declare in (("thread", self.thread), ("mutex", self.mutex),
                               ("object", self.object), ("unseen", self.is_unseen)):
             for _, line in self.lines_with(f"\n{word} ".encode()):
@@ -136,6 +136,21 @@ class Facts:
         """Returns the time of a line, which may be earlier than the clock after it."""
         return int(self.words(line)[0])
 
+    def clock(self, line):
+        """Returns the greatest time up to a line. Lines that go back are looked for once."""
+        if self.clocks is None:
+            self.clocks, now = {}, 0
+            for number, text in enumerate(self.lines, 1):
+                time = int(text.partition(b" ")[0]) if text[:1] <= b"9" else now
+                if time < now:
+                    self.clocks[number] = now
+                now = max(now, time)
+        return self.clocks.get(line) or self.time(line)
+
+    def word(self, line):
+        """Returns what a fact says happened, as `waits`."""
+        return self.lines[line - 1].split(b" ", 3)[2]
+
     def places(self, line):
         """Returns the places of a line, the innermost first. There is none without a line."""
         if not line:
@@ -160,16 +175,16 @@ class Facts:
         found, times = {}, {}
         for number, line in enumerate(self.lines, 1):
             words = line.split(b" ", 4)
-            if words[2:3] not in OF_OWNERS or line[:1] > b"9":
+            if len(words) < 4 or words[2] not in OF_OWNERS or line[:1] > b"9":
                 continue
-            mutex, is_lock = int(words[3]), words[2] != b"released"
+            mutex = words[3]
             before = times.get(mutex, 0)
-            times[mutex] = before + (1 if is_lock else -1)
-            if before == 0 or times[mutex] == 0:
-                lines, owners = found.setdefault(mutex, ([0], [0]))
+            times[mutex] = after = before + (-1 if words[2] == b"released" else 1)
+            if not before or not after:
+                lines, owners = found.get(mutex) or found.setdefault(mutex, ([0], [0]))
                 lines.append(number)
-                owners.append(int(words[1]) if is_lock else 0)
-        return found
+                owners.append(after and int(words[1]))
+        return {int(mutex): changes for mutex, changes in found.items()}
 
     def owners_of(self, mutex):
         """They are read once, if they are needed."""

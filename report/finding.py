@@ -6,6 +6,7 @@ KINDS = {
     "deadlock": "deadlock",
     "late": "held up",
     "ran": "ran at another level",
+    "gave-up": "gave up",
     "stalled": "worth a look",
     "look": "worth a look",
     "orders": "can deadlock",
@@ -14,7 +15,7 @@ KINDS = {
     "other": "other wait",
 }
 BAD = "deadlock", "late", "ran"          # they make the status 1
-LOOK = "stalled", "look", "orders"
+LOOK = "gave-up", "stalled", "look", "orders"
 TOLERANCE = 50_000  # nanoseconds for which the kernel may run a thread at another level
 
 
@@ -69,20 +70,48 @@ def similar(recording, waits, blamed_of, size_of):
     origins = {mutex.number: (mutex.protocol, mutex.place or mutex.number)
                for mutex in facts.mutexes.values()}
     for wait in waits:
-        where = facts.place(wait.line) or recording.names.stem(wait.thread)
+        where = facts.place(wait.line) or recording.names.stems[wait.thread]
         key = where, origins[wait.mutex], origins.get(blamed_of(wait))
         groups.setdefault(key, []).append(wait)
     return [sorted(group, key=size_of, reverse=True) for group in groups.values()]
 
 
-def finding_of(recording, kind, group, size_of):
-    """Returns a finding of similar waits for mutexes."""
-    worst, mutexes = group[0], list(dict.fromkeys(wait.mutex for wait in group))
-    return Finding(
-        kind=kind, who=distinct((wait.thread, recording.level_of(wait)) for wait in group),
-        by=distinct((wait.owner, wait.owner_level) for wait in group if wait.owner),
-        what=recording.names.mutexes(mutexes), mutexes=mutexes, waits=group, times=len(group),
-        protocol=recording.facts.mutexes[worst.mutex].protocol,
-        where=recording.where(worst.line), callers=recording.callers(worst.line),
-        taken=recording.where(worst.taken), since=worst.begin, lasted=worst.lasted,
-        worst=size_of(worst), total=sum(map(size_of, group)))
+class MutexFinding:
+    """A finding of similar waits for mutexes. Its words are found once one of them is read: there
+    may be thousands of findings, of which the text has ten of each kind."""
+    WORDS = ("by", "what", "mutexes", "protocol", "where", "callers", "taken", "why", "advice",
+             "meanwhile", "lines")
+    spots = ()
+
+    def __init__(self, recording, kind, group, size_of, details, advise=None):
+        worst = group[0]
+        self.recording, self.kind, self.waits = recording, kind, group
+        self.details, self.advise = details, advise
+        self.who = distinct((wait.thread, recording.level_of(wait)) for wait in group)
+        self.times, self.worst, self.total = len(group), size_of(worst), sum(map(size_of, group))
+        self.since, self.lasted = worst.begin, worst.lasted
+
+    def __getattr__(self, name):
+        if name not in self.WORDS:
+            raise AttributeError(name)
+        if name == "advice" and self.advise:  # the first sentences need that of all
+            self.advice = self.advise(self.waits)
+            return self.advice
+        recording, worst = self.recording, self.waits[0]
+        self.by = distinct((one.owner, one.owner_level) for one in self.waits if one.owner)
+        self.mutexes = list(dict.fromkeys(wait.mutex for wait in self.waits))
+        self.what = recording.names.mutexes(self.mutexes)
+        self.protocol = recording.facts.mutexes[worst.mutex].protocol
+        self.where, self.callers = recording.where(worst.line), recording.callers(worst.line)
+        self.taken = recording.where(worst.taken)
+        self.why, self.meanwhile, self.lines = "", [], []
+        self.advice = self.advise(self.waits) if self.advise else ""
+        self.details(self)
+        return self.__dict__[name]
+
+
+def findings_of(recording, kind, waits, size_of, details, blamed_of=lambda wait: 0, advise=None):
+    """Yields the findings of similar waits. `details` puts why it is so, and what to do, unless
+    `advise` says that of the waits."""
+    for group in similar(recording, waits, blamed_of, size_of):
+        yield MutexFinding(recording, kind, group, size_of, details, advise)

@@ -6,7 +6,7 @@ from bounds import Bounds
 from finding import BAD, KINDS, LOOK
 from mutex_waits import MutexWaits
 from other_findings import OtherFindings
-from words import count, duration, moment
+from words import count, date, duration, moment
 
 
 class Findings:
@@ -41,8 +41,9 @@ class Findings:
 
     def size(self):
         """Returns what was recorded, in a line."""
-        facts, rows = self.facts, self.recording.all_rows
-        return (f"{duration(rows.ended)}, {count(len(facts.threads), 'thread')}, "
+        facts, rows, began = self.facts, self.recording.all_rows, self.recording.began
+        since = f" from {date(began)} on" if began else ""
+        return (f"{duration(rows.ended)}{since}, {count(len(facts.threads), 'thread')}, "
                 f"{count(len(facts.mutexes), 'mutex', 'mutexes')}, {count(facts.count, 'fact')}, "
                 f"{count(len(rows.waits), 'wait for a mutex', 'waits for mutexes')}")
 

@@ -1,4 +1,4 @@
-"""A report as JSON: all rows with names and places, and the findings, as docs/JSON.md says."""
+"""A report as JSON: all rows with names and places, and the findings, as docs/COMMANDS.md says."""
 import json
 
 from verdict import Verdict
@@ -8,8 +8,8 @@ ENDED = {1: "by", 2: "timed-out", 3: "failed"}
 
 
 class JsonReport:
-    def __init__(self, findings):
-        self.findings, self.recording = findings, findings.recording
+    def __init__(self, findings, has_table):
+        self.findings, self.recording, self.has_table = findings, findings.recording, has_table
         self.facts, self.names, self.rows = findings.facts, findings.names, findings.rows
 
     def value(self):
@@ -19,7 +19,8 @@ class JsonReport:
             "verdict": Verdict(self.findings).sentences(),
             "shown": self.recording.choice.said(), "unseen": self.findings.unseen(),
             "recording": {
-                "lasted": every.ended, "lines": every.lines, "facts": self.facts.count,
+                "began": self.recording.began, "lasted": every.ended,
+                "lines": every.lines, "facts": self.facts.count,
                 "waits": len(every.waits), "has_end": self.facts.has_end,
                 "inverted": sum(wait.inverted > 0 for wait in every.waits),
                 "deadlocks": len(every.deadlocks),
@@ -37,6 +38,7 @@ class JsonReport:
                        "taken_at": self.places(one.taken)} for one in rows.nests],
             "deadlocks": rows.deadlocks,
             "bounds": [one._asdict() for one in self.findings.bounds()],
+            "mutex_table": self.mutex_table() if self.has_table else None,
         }
 
     # ---- names and places
@@ -74,6 +76,10 @@ class JsonReport:
     def ran(self, one):
         return self.numbers(one)
 
+    def mutex_table(self):
+        return [{**one._asdict(), "callers": [caller._asdict() for caller in one.callers]}
+                for one in self.recording.mutex_table()]
+
     # ---- findings
 
     def finding(self, one):
@@ -89,6 +95,6 @@ class JsonReport:
             "rows": [row.line for row in one.waits]}
 
 
-def json_of(findings):
+def json_of(findings, has_table=False):
     """Returns the text."""
-    return json.dumps(JsonReport(findings).value()) + "\n"
+    return json.dumps(JsonReport(findings, has_table).value()) + "\n"

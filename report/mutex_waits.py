@@ -1,7 +1,9 @@
 """Findings of waits for mutexes: held up, stalled, bounded and plain ones."""
 from bisect import bisect_left
 
-from finding import finding_of, first_of, similar
+from asleep import Asleep
+from finding import TOLERANCE, findings_of, first_of
+from gave_up import GaveUp
 from words import duration
 
 BOUNDS = {"inherit": "bounds it by inheritance", "protect": "bounds it by its ceiling"}
@@ -11,17 +13,22 @@ class MutexWaits:
     def __init__(self, recording):
         self.recording, self.facts, self.names = recording, recording.facts, recording.names
         self.waits, self.dead = recording.rows.waits, self.find_dead()
-        self.late_waits = self.without_links()
+        self.given_up = {wait.line: wait for wait in self.waits if recording.gave_up(wait)}
+        self.asleep = Asleep(recording)
+        self.late_waits = [
+            wait for wait in self.without_links() if wait.line not in self.given_up]
 
     def findings(self):
-        late = {wait.line for wait in self.late_waits}
-        rest = [wait for wait in self.waits if wait.line not in late and wait.line not in self.dead]
-        stalled = [wait for wait in rest if wait.stalled and wait.level and not wait.inverted]
+        told = {*self.dead, *self.given_up, *(wait.line for wait in self.late_waits)}
+        rest = [wait for wait in self.waits if wait.line not in told]
+        stalled = [wait for wait in rest if wait.level and not wait.inverted and (
+            wait.stalled or self.asleep.during(wait) > TOLERANCE)]
         lines = {wait.line for wait in stalled}
         rest = [wait for wait in rest if wait.line not in lines]
         bounded = [wait for wait in rest if wait.lower and not wait.inverted]
         plain = [wait for wait in rest if not wait.lower or wait.inverted]
         yield from self.late()
+        yield from GaveUp(self).findings()
         yield from self.stalled(stalled)
         yield from self.bounded(bounded)
         yield from self.plain(plain)
@@ -69,21 +76,21 @@ class MutexWaits:
 
     def late(self):
         """Waits that are inverted: the thread that had to run wasn't urgent enough."""
-        def size_of(wait):
-            return wait.inverted
+        return findings_of(self.recording, "late", self.late_waits, lambda wait: wait.inverted,
+                           self.late_details, self.blamed_of, self.advice)
 
-        def blamed_of(wait):
-            return wait.worst_part.mutex
+    @staticmethod
+    def blamed_of(wait):
+        return wait.worst_part.mutex
 
-        for group in similar(self.recording, self.late_waits, blamed_of, size_of):
-            found, worst = finding_of(self.recording, "late", group, size_of), group[0]
-            found.by = self.runners(group)
-            found.why = self.reason(worst)
-            found.advice = self.advice(group, list(dict.fromkeys(map(blamed_of, group))))
-            found.meanwhile = sorted(worst.meanwhile, key=lambda one: -one.time)
-            if worst.stalled:
-                found.lines.append(f"for {duration(worst.stalled)} of it {self.held(worst)}")
-            yield found
+    def late_details(self, found):
+        group, worst = found.waits, found.waits[0]
+        found.by, found.why = self.runners(group), self.reason(worst)
+        found.meanwhile = sorted(worst.meanwhile, key=lambda one: -one.time)
+        if worst.stalled:
+            found.lines.append(f"for {duration(worst.stalled)} of it {self.held(worst)}")
+        if self.asleep.during(worst) > TOLERANCE:
+            found.lines.append(self.asleep.said(worst) + ", which no protocol shortens")
 
     @staticmethod
     def runners(group):
@@ -117,8 +124,9 @@ class MutexWaits:
             for mutex, owner in way)
         return f"{self.names.thread(wait.thread)} {chain}; {passes}"
 
-    def advice(self, group, blamed):
-        """Says what to write at the mutexes that are to blame."""
+    def advice(self, group):
+        """Says what to write at the mutexes that are to blame for some inverted waits."""
+        blamed = list(dict.fromkeys(map(self.blamed_of, group)))
         first, origin = blamed[0], self.names.origin(blamed[0])
         mutex, name = self.facts.mutexes[first], f"{self.names.mutex(first)}{origin}"
         comma = "," if origin else ""
@@ -131,21 +139,31 @@ class MutexWaits:
     # ---- the others
 
     def stalled(self, waits):
-        """Waits whose runner waited for something else meanwhile."""
+        """Waits whose runner waited for something else, or slept, meanwhile."""
         def size_of(wait):
-            return wait.stalled
+            return wait.stalled + self.asleep.during(wait)
 
-        for group in similar(self.recording, waits, lambda wait: 0, size_of):
-            found, worst = finding_of(self.recording, "stalled", group, size_of), group[0]
-            stalls = sorted(((wait, stall) for wait in group for stall in wait.stalls),
-                            key=lambda one: -one[1].time)
-            found.by = first_of((stall.runner, self.facts.level(stall.runner, wait.line))
-                                for wait, stall in stalls)
-            what = self.names.the_object(worst.worst_stall.object)
-            found.why = self.held(worst)
-            held = self.held_mutex(worst) or "a mutex"
-            found.advice = f"don't wait for {what} while owning {held}"
-            yield found
+        return findings_of(self.recording, "stalled", waits, size_of, self.stalled_details)
+
+    def stalled_details(self, found):
+        worst = found.waits[0]
+        stalls = sorted(((wait, stall) for wait in found.waits for stall in wait.stalls),
+                        key=lambda one: -one[1].time)
+        found.by = first_of((stall.runner, self.facts.level(stall.runner, wait.line))
+                            for wait, stall in stalls) or found.by
+        if self.asleep.during(worst) > TOLERANCE:
+            found.lines.append(self.asleep.said(worst))
+        found.why, found.advice = self.idle(worst)
+
+    def idle(self, wait):
+        """Says what the runner of a wait did in place of running, and what to do."""
+        if wait.stalled < self.asleep.during(wait):
+            mutex = self.names.mutex(wait.mutex)
+            return (f"{self.names.thread(wait.owner)} slept while it owned {mutex}",
+                    f"don't sleep, or read and write files, while owning {mutex}")
+        what = self.names.the_object(wait.worst_stall.object)
+        held = self.held_mutex(wait) or "a mutex"
+        return self.held(wait), f"don't wait for {what} while owning {held}"
 
     def held_mutex(self, wait):
         """Returns the mutex that the runner of a stalled wait held, or an empty text."""
@@ -161,24 +179,27 @@ class MutexWaits:
 
     def bounded(self, waits):
         """Waits for lower threads that a protocol bounds."""
-        def size_of(wait):
-            return wait.lower
+        def details(found):
+            found.why = self.bound(found.waits[0])
 
-        for group in similar(self.recording, waits, lambda wait: 0, size_of):
-            found = finding_of(self.recording, "bounded", group, size_of)
-            how = BOUNDS.get(found.protocol,
-                             "passes nothing on, but its owner was urgent enough by another one")
-            found.why = f"{self.names.mutex(group[0].mutex)} {how}"
-            yield found
+        return findings_of(self.recording, "bounded", waits, lambda wait: wait.lower, details)
+
+    def bound(self, wait):
+        """Says what bounds a wait for a lower thread."""
+        how = BOUNDS.get(self.facts.mutexes[wait.mutex].protocol,
+                         "passes nothing on, but its owner was urgent enough by another one")
+        return f"{self.names.mutex(wait.mutex)} {how}"
 
     def plain(self, waits):
         """Waits for threads that are as urgent, or more, and links of chains."""
-        def size_of(wait):
-            return wait.lasted
+        def details(found):
+            found.why = self.plainly(found.waits[0])
 
-        for group in similar(self.recording, waits, lambda wait: 0, size_of):
-            found = finding_of(self.recording, "wait", group, size_of)
-            found.why = ("it is a part of how another thread was held up" if group[0].inverted
-                         else "the thread that it waited for was no less urgent" if group[0].owner
-                         else "the mutex was free: its next owner was quicker")
-            yield found
+        return findings_of(self.recording, "wait", waits, lambda wait: wait.lasted, details)
+
+    @staticmethod
+    def plainly(wait):
+        """Says why a plain wait took time."""
+        return ("it is a part of how another thread was held up" if wait.inverted
+                else "the thread that it waited for was no less urgent" if wait.owner
+                else "the mutex was free: its next owner was quicker")

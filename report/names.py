@@ -12,6 +12,7 @@ class Names:
         self.facts = facts
         self.of_threads = Counter(thread.name for thread in facts.threads.values())
         self.of_mutexes = Counter(mutex.name for mutex in facts.mutexes.values())
+        self.stems = {number: self.stem_of(thread.name) for number, thread in facts.threads.items()}
 
     def thread(self, number):
         name = self.facts.threads[number].name
@@ -43,9 +44,9 @@ class Names:
         least, top = min(level for _, level in group), max(level for _, level in group)
         return f" ({top})" if least == top else f" ({least} to {top})"
 
-    def stem(self, number):
+    @staticmethod
+    def stem_of(name):
         """Returns the name of a thread without a number at its end, as those of a pool have."""
-        name = self.facts.threads[number].name
         return re.sub(r"[\d_.:/-]*\d$", "", name) if name != "-" else "-"
 
     def mutex(self, number):

@@ -103,7 +103,7 @@ class OtherFindings:
         groups, is_real_time = {}, self.has_real_time()
         for wait in self.rows.blocked:
             if wait.level or not is_real_time:
-                where = self.facts.place(wait.line) or self.names.stem(wait.thread)
+                where = self.facts.place(wait.line) or self.names.stems[wait.thread]
                 groups.setdefault((where, self.names.object(wait.object)), []).append(wait)
         for (_, what), group in groups.items():
             kind = self.facts.objects[group[0].object].kind

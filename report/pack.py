@@ -7,6 +7,7 @@ more than the lane's.
 import base64
 import zlib
 from bisect import bisect_right
+from heapq import heappop, heappush
 
 MOST_SPOTS = 1000        # of a finding
 MOST_ITEMS = 400_000     # ownerships and stays on a CPU that are all kept
@@ -47,12 +48,13 @@ class Places:
 
 def rows_of(items):
     """Returns for each (begin, end), in the order of time, its row: the first that is free then."""
-    free, rows = [], []
+    taken, free, rows, count = [], [], [], 0
     for begin, end in items:
-        row = next((at for at, until in enumerate(free) if until <= begin), len(free))
-        if row == len(free):
-            free.append(end)
-        free[row] = end
+        while taken and taken[0][0] <= begin:
+            heappush(free, heappop(taken)[1])
+        row = heappop(free) if free else count
+        count = max(count, row + 1)
+        heappush(taken, (end, row))
         rows.append(row)
     return rows
 

@@ -3,6 +3,7 @@ from bisect import bisect_left, bisect_right
 from heapq import nlargest
 
 from choice import Choice
+from mutex_table import MutexTable
 from names import Names
 from words import place_and_function, without_function
 
@@ -12,10 +13,11 @@ LONGEST, MOST_GRANTS, MOST_WAITS = 100, 50, 20
 
 
 class Recording:
-    """`rows` are those that are chosen; `all_rows` are all."""
+    """`rows` are those that are chosen; `all_rows` are all. It `began` so many nanoseconds after
+    1970, if that is known."""
 
-    def __init__(self, facts, rows, thread=None, mutex=None, since=0):
-        self.facts, self.all_rows, self.names = facts, rows, Names(facts)
+    def __init__(self, facts, rows, thread=None, mutex=None, since=0, began=None):
+        self.facts, self.all_rows, self.names, self.began = facts, rows, Names(facts), began
         self.choice = Choice(self, thread, mutex, since)
         self.rows = rows if self.choice.is_all else self.choice.of(rows)
         self.waits_of = self.by_thread(rows.waits)
@@ -33,9 +35,41 @@ class Recording:
     def level_of(self, wait):
         """Returns the highest level that a thread had while it waited for a mutex."""
         changes = self.facts.levels.get(wait.thread, ())
-        until = wait.until or self.all_rows.lines + 1
-        later = changes[bisect_right(changes, (wait.line, 101)):bisect_left(changes, (until, 0))]
-        return max([wait.level, *(level for _, level in later)])
+        level, at = wait.level, bisect_right(changes, (wait.line, 101))
+        while at < len(changes) and not 0 < wait.until < changes[at][0]:
+            level, at = max(level, changes[at][1]), at + 1
+        return level
+
+    def wait_at(self, thread, line):
+        """Returns the wait for a mutex that a thread is in after a line, or None."""
+        waits, lines = self.waits_of.get(thread, ((), ()))
+        wait = waits[at - 1] if (at := bisect_right(lines, line)) else None
+        return wait if wait and (wait.until > line or not wait.until) else None
+
+    def gave_up(self, wait):
+        """Returns whether a wait for a mutex ended without it, and doesn't go on at that time."""
+        if not wait.until or self.facts.word(wait.until) != b"gave-up":
+            return False
+        waits, lines = self.waits_of[wait.thread]
+        later = waits[bisect_right(lines, wait.line):][:1]
+        return not any((one.mutex, one.begin) == (wait.mutex, wait.end) for one in later)
+
+    def cycle_before(self, wait):
+        """Returns the waits of the deadlock that the end of a wait ended, that one first, or []."""
+        line, cycle = wait.until - 1, [wait]
+        while len(cycle) < LONGEST:
+            owner = self.facts.owner(cycle[-1].mutex, line)
+            if owner == wait.thread:
+                return cycle
+            following = self.wait_at(owner, line)
+            if not following or following in cycle:
+                return []
+            cycle.append(following)
+        return []
+
+    def mutex_table(self):
+        """Returns how often and for how long each mutex was owned and waited for."""
+        return MutexTable(self).all()
 
     def where(self, line):
         """Returns the place of a line as 'mix.c:17 (high)', or an empty text."""

@@ -11,7 +11,8 @@ TITLES = {
     "deadlock": "DEADLOCK at the end of the recording",
     "late": "HELD UP by less urgent threads, and nothing bounded it (priority inversion)",
     "ran": "RAN at another level than its mutexes give",
-    "stalled": "WORTH A LOOK: waits for a mutex whose owner waited for something else meanwhile",
+    "gave-up": "GAVE UP: waits for a mutex that ended without it, as by a time-out",
+    "stalled": "WORTH A LOOK: waits for a mutex whose owner slept or waited for something else",
     "look": "WORTH A LOOK: waits that a less urgent thread ended, where nothing passes a priority"
             " on",
     "orders": "CAN DEADLOCK: mutexes that are locked in both orders (lock-order inversion, AB-BA)",
@@ -19,17 +20,16 @@ TITLES = {
     "wait": "PLAIN WAITS: for threads that are as urgent, or more",
     "other": "OTHER WAITS",
 }
-FOR = {"late": "held up by", "stalled": "for", "bounded": "for", "wait": "for", "look": "until",
-       "other": "until"}
-OF_MUTEXES = "late", "stalled", "bounded", "wait"
+FOR = {"late": "held up by", "look": "until", "other": "until"}  # of other kinds: for
+OF_MUTEXES = "late", "gave-up", "stalled", "bounded", "wait"
 IN_A_LINE = "bounded", "wait", "other"  # kinds that have no details
 
 
 class Terminal:
     """Lays out findings as lines."""
 
-    def __init__(self, findings, is_coloured=False, most=MOST):
-        self.findings, self.names = findings, findings.names
+    def __init__(self, findings, is_coloured=False, most=MOST, has_table=False):
+        self.findings, self.names, self.has_table = findings, findings.names, has_table
         self.is_coloured, self.most = is_coloured, most
         self.lines, self.advised = [], set()
 
@@ -59,6 +59,8 @@ class Terminal:
             self.section(kind, found.of(kind))
         self.ownerships()
         self.bounds()
+        if self.has_table:
+            self.mutex_table()
         self.title("NOT LOOKED AT")
         for line in found.unseen():
             self.put(line, 2)
@@ -93,8 +95,9 @@ class Terminal:
             self.put(f"and {count(number, what)} (--all shows all)", indent)
 
     def sentences(self, one):
-        for line in one.lines:
+        for line in one.lines[:self.most]:
             self.put(line, 2)
+        self.rest(len(one.lines) - self.most, "more sentence", 2)
         self.advise(one, 2)
 
     def finding(self, one):
@@ -111,7 +114,7 @@ class Terminal:
         """Says which thread waited for which, and at what."""
         said = self.names.threads(one.who, 2)
         if one.by:
-            said += f" {FOR[one.kind]} {self.names.threads(one.by, 2)}"
+            said += f" {FOR.get(one.kind, 'for')} {self.names.threads(one.by, 2)}"
         if one.what:
             said += f" at {one.what}" if one.kind in OF_MUTEXES else f" ({one.what})"
         if one.kind in IN_A_LINE and one.where:
@@ -144,6 +147,26 @@ class Terminal:
             self.put(f"=> {one.advice}", indent, 3, style="strong")
 
     # ---- more
+
+    def mutex_table(self):
+        """Lists all mutexes that were locked or waited for, and where threads waited for them."""
+        self.title("ALL MUTEXES, those first for which threads waited longest in all")
+        heads = "locks", "waited", "mean hold", "longest", "p99 wait", "waits in all"
+        head = " ".join(map("{:>9}".format, heads[:-1])) + f" {heads[-1]:>12}  mutex"
+        self.lines.append(self.styled("soft", head))
+        for use in self.findings.recording.mutex_table():
+            share = f"{100 * use.contended / max(1, use.locks):.1f} %"
+            times = [duration(use.mean), duration(use.longest), *(
+                duration(time) if use.waits else "-" for time in (use.p99, use.total))]
+            figures = " ".join(map("{:>9}".format, [f"{use.locks:,}", share, *times[:-1]]))
+            self.put(f"{figures} {times[-1]:>12}  {self.names.mutex(use.mutex)}"
+                     f"{self.names.origin(use.mutex)}", 0, 66)
+            for one in use.callers[:3]:
+                where = one.place or "an unknown place"
+                waits = f"{count(one.waits, 'wait')} of {duration(one.total)}"
+                self.put(f"{waits} in all at {where}", 11, style="soft")
+            if len(use.callers) > 3:
+                self.put(f"and waits at {count(len(use.callers) - 3, 'more place')}", 11)
 
     def ownerships(self):
         found = self.findings.owned()

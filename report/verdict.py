@@ -119,7 +119,9 @@ class Verdict:
     def of_calm(self, look):
         waits = self.recording.rows.waits
         calm = "In the rest" if self.findings.lacks_much else "Nothing to worry about:"
-        if look:
+        if look and look[0].kind == "gave-up":
+            lines = ["No wait was unbounded, and no deadlock lasts."]
+        elif look:
             lines = ["No priority inversion, and no deadlock."]
         elif not waits:
             return [f"{calm} no thread waited for a mutex."]
@@ -145,10 +147,14 @@ class Verdict:
             return (f"{found.what} are locked in both orders, so that"
                     f" {self.names.threads(found.who, levels=False)} can deadlock")
         worst = found.waits[0]
+        if found.kind == "gave-up":
+            return (f"{self.waiter(worst)} waited {duration(worst.lasted)}"
+                    f"{self.short(found.where)} for {self.names.mutex(worst.mutex)}, and gave up:"
+                    f" {found.why}")
         if found.kind == "stalled":
             return (f"{self.waiter(worst)} waited {duration(worst.lasted)}"
                     f"{self.short(found.where)} for {self.names.mutex(worst.mutex)}, for"
-                    f" {duration(worst.stalled)} of it because {found.why}")
+                    f" {duration(found.worst)} of it because {found.why}")
         who, gave = self.names.at(worst.thread, worst.level), self.findings.others.gave(worst)
         return (f"{who} waited {duration(worst.lasted)}{self.short(found.where)} for {found.what},"
                 f" until {self.names.at(worst.by, worst.by_level)} {gave}")

@@ -1,5 +1,7 @@
 """How a report says numbers, times and lists."""
+import functools
 import re
+import time
 
 UNITS = ((10**9, "s"), (10**6, "ms"), (10**3, "us"))
 
@@ -20,6 +22,13 @@ def duration(nanoseconds):
 def moment(nanoseconds):
     """Returns a time since the recording began, as '0.005805 s'."""
     return f"{nanoseconds / 10**9:.6f} s"
+
+
+def date(nanoseconds):
+    """Returns a time since 1970, as '2026-12-01 11:20:33.123 +0000' where the program runs."""
+    seconds, rest = divmod(nanoseconds, 10**9)
+    shown = time.localtime(seconds)
+    return time.strftime(f"%Y-%m-%d %H:%M:%S.{rest // 10**6:03} %z", shown)
 
 
 def count(number, one, more=None):
@@ -50,6 +59,7 @@ def upper_first(text):
     return text[:1].upper() + text[1:]
 
 
+@functools.lru_cache(maxsize=None)
 def place_and_function(place):
     """Returns 'mix.c:17(high)' as 'mix.c:17 (high)'."""
     return re.sub(r"(?<=\S)\(", " (", place, count=1)

@@ -29,6 +29,7 @@ ONE_AT_A_TIME = {
 BUILDS = {
     "pim": ("suite program c bench picture conform web report", "echo pim 1 | ./pim check"),
     "pim-findings": ("facts", "echo facts 1 | ./pim-findings"),
+    "pim_soak": ("suite program bench", "python3 -c 'from tests.shared.checks import soak; soak()'"),
     "libpim": ("suite c bench", "make -s -C c all pthreads out/freestanding out/steps"),
     "the recorder": ("record", "make -s -C record CFLAGS='-O2 -Werror'"),
     "the performer": ("suite conform", "make -s -C conform CFLAGS='-O2 -Werror' all programs"),

@@ -167,6 +167,8 @@ def main():
     given = arguments()
     if given.module:
         return run_module(given.module, given.patterns)
+    for number in (signal.SIGTERM, signal.SIGHUP):
+        signal.signal(number, lambda number, _: sys.exit(128 + number))  # and ends what runs
     if given.program:
         os.environ["PIM_PROGRAM"] = str(pathlib.Path(given.program).resolve())
     modules = [module for part in dict.fromkeys(given.parts or PARTS) for module in modules_of(part)]

@@ -105,7 +105,8 @@ static bool answer_request(struct visitor *of) {
     struct answer answer = { .version = SHARED_VERSION,
                              .is_first = is_first,
                              .is_contended = state.amount.room.is_contended,
-                             .has_stacks = state.amount.room.has_stacks };
+                             .has_stacks = state.amount.room.has_stacks,
+                             .is_shared = !state.amount.room.is_last };
     if (request.version == SHARED_VERSION) of->store = make_store(of->channel, request.process);
     if (of->store) answer.slots = of->store->slots;
     send_answer(of->channel, &answer, of->store ? of->store->memory : -1);

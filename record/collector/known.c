@@ -116,6 +116,8 @@ static void keep_module(struct ring *of, struct ring_thread *thread, const struc
                                .address = record->object,
                                .number = record->number,
                                .time = record->time,
+                               .detail = record->detail,
+                               .how = record->how,
                                .room = record->value };
     *(of->last_module ? &of->last_module->next : &of->modules) = module;
     of->last_module = module;

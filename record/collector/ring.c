@@ -164,6 +164,9 @@ static void look_at(struct ring *of, struct ring_thread *thread, const struct re
     case EVENT_REQUEST:
         thread->asked = record->time;
         break;
+    case EVENT_CEILING:
+        thread->asked = 0;
+        break;
     case EVENT_GRANTED:
     case EVENT_FAILED:
         if (thread->asked != IS_TOLD) look_at_wait(of, thread, record->value);

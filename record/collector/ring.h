@@ -51,6 +51,8 @@ struct module {
     struct module *next;
     uint32_t process;
     uint64_t address, number, time;
+    uint16_t detail; /* with `how`: the pages that it takes */
+    uint8_t how;
     size_t length, room;
     char path[];
 };

@@ -134,13 +134,27 @@ bool store_make_memory(struct store *made) {
 
 /* ---- the file ---- */
 
-/* Counts the records of a chunk from one on as lost. */
-static void lose(struct store *of, const struct record *chunk, unsigned from, unsigned to) {
-    if (from == 0) from = 1; /* the head */
-    if (from >= to) return;
-    uint64_t first = atomic_load(&chunk[from].number);
-    if (of->first_lost == 0 || first < of->first_lost) of->first_lost = first;
-    of->lost += to - from;
+/* What is to be written of a chunk, without the heads. */
+struct written {
+    uint64_t count, first, last; /* the numbers of the first record and of the last one */
+};
+
+static struct written count_written(const struct record *chunk, unsigned from, unsigned to) {
+    struct written counted = { .count = 0 };
+    for (unsigned i = from; i < to; i++) {
+        uint64_t number = atomic_load_explicit(&chunk[i].number, memory_order_relaxed);
+        if (number == CHUNK_MARK) continue;
+        if (counted.count++ == 0) counted.first = number;
+        counted.last = number;
+    }
+    return counted;
+}
+
+/* Counts records as lost. */
+static void lose(struct store *of, const struct written *lost) {
+    if (lost->count == 0) return;
+    if (of->first_lost == 0 || lost->first < of->first_lost) of->first_lost = lost->first;
+    of->lost += lost->count;
 }
 
 /* Writes what is new of the table of places, before a chunk with the numbers of those. */
@@ -166,7 +180,12 @@ static void write_chunk(struct store *of, uint64_t slot, uint64_t place, unsigne
     if (from == 0) ((struct chunk_head *)bytes)->place = 0;
     bool is_written = of->lost == 0 &&
                       write_all(of->file, bytes, (to - from) * sizeof(struct record), offset);
-    if (!is_written) lose(of, chunk, from, to);
+    struct written counted = count_written(chunk, from, to);
+    if (is_written)
+        of->records += counted.count;
+    else
+        lose(of, &counted);
+    if (counted.last >= of->next_number) of->next_number = counted.last + 1;
     of->written[slot] = (uint16_t)to;
 }
 
@@ -181,6 +200,12 @@ static bool cover(struct store *of, const struct header *header) {
     return true;
 }
 
+/* Returns a number above those of all records, which are times, and of the first lost one. */
+static uint64_t end_of(const struct store *of, uint64_t first_lost) {
+    uint64_t end = of->next_number ? of->next_number : 1;
+    return first_lost < end ? end : first_lost + 1;
+}
+
 /* Writes the header's fields, if they are new. */
 static void write_header(struct store *of) {
     struct header header;
@@ -193,6 +218,8 @@ static void write_header(struct store *of) {
     uint64_t first_lost = header.first_lost;
     if (of->first_lost && (first_lost == 0 || of->first_lost < first_lost))
         header.first_lost = of->first_lost;
+    header.records = of->records;
+    if (header.contents & HAS_TIMES) header.next_number = end_of(of, header.first_lost);
     if (memcmp(&header, of->header, FIELDS_BYTES) == 0) return;
     if (write_all(of->file, &header, FIELDS_BYTES, 0)) memcpy(of->header, &header, FIELDS_BYTES);
 }
@@ -357,8 +384,9 @@ static bool copy_begun(struct store *of) {
 
 /* Records that take a number from now on aren't all there: the chunks are copied one by one. */
 bool store_prepare_snapshot(struct store *of) {
-    of->end = atomic_load(&of->view->header.next_number);
     of->ended = clock_time();
+    of->end = atomic_load(&of->view->header.next_number);
+    if (of->end && of->view->header.contents & HAS_TIMES) of->end = of->ended;
     store_collect(of, true);
     return copy_begun(of);
 }
@@ -393,8 +421,8 @@ void store_leave_snapshot(struct store *of) {
 
 /* Writes the ring to the log's file. */
 static void end_ring(struct store *of) {
-    of->end = atomic_load(&of->view->header.next_number);
-    bool has_log = of->end != 0; /* else the program hasn't filled the header */
+    of->end = NO_END;
+    bool has_log = atomic_load(&of->view->header.next_number) != 0; /* else it isn't filled */
     if (has_log && copy_begun(of)) (void)!write_ring(of, of->file);
     store_leave_snapshot(of);
 }

@@ -29,6 +29,8 @@ struct store {
     uint64_t bytes;            /* that the chunks in the file may take, with the header */
     uint64_t chunks, slots;    /* for how many the file and the memory have room */
     uint64_t length;           /* of the file, with the chunks that were taken */
+    uint64_t records;          /* in the file */
+    uint64_t next_number;      /* above those of the records */
     uint64_t saved;            /* bytes of the chunks that are done, and that weren't written */
     uint64_t locked;           /* how many slots are locked in memory */
     uint16_t *written;         /* of each slot: how many records are in the file, with the head */

@@ -51,6 +51,12 @@ static bool is_in_memory(int file) {
     return fstatfs(file, &system) == 0 && system.f_type == TMPFS_MAGIC;
 }
 
+static struct read_file {
+    dev_t device;
+    ino_t number;
+} *read_files;
+static size_t read_count;
+
 /* Maps a file, which may be missing: then this returns NULL. It waits for no pipe. */
 static const char *mapped(const char *path, bool may_lack, size_t *length) {
     struct stat status;
@@ -59,6 +65,8 @@ static const char *mapped(const char *path, bool may_lack, size_t *length) {
     if (file < 0 && may_lack && errno == ENOENT) return NULL;
     if (file < 0 || fstat(file, &status) != 0) refuse(path, "%s", strerror(errno));
     if (!S_ISREG(status.st_mode)) refuse(path, "it isn't a file");
+    read_files = with_room(read_files, read_count, sizeof *read_files);
+    read_files[read_count++] = (struct read_file){ status.st_dev, status.st_ino };
     *length = (size_t)status.st_size;
     const void *bytes = "";
     if (*length && is_in_memory(file)) {
@@ -76,22 +84,19 @@ static const char *beside(const char *path, const char *ending) {
     return strcat(strcpy(name, path), ending);
 }
 
-/* Refuses to write a file that is read: the log, or one next to it. */
-static void spare(const char *output, const char *path) {
-    static const char *const endings[] = { "", ".kernel", ".places" };
-    struct stat status, other;
+/* Refuses to write a file that was read. */
+static void spare(const char *output) {
+    struct stat status;
     if (stat(output, &status) != 0) return;
-    for (size_t i = 0; i < sizeof endings / sizeof *endings; i++) {
-        bool is_there = stat(beside(path, endings[i]), &other) == 0;
-        if (is_there && status.st_dev == other.st_dev && status.st_ino == other.st_ino)
+    for (size_t i = 0; i < read_count; i++)
+        if (status.st_dev == read_files[i].device && status.st_ino == read_files[i].number)
             refuse(output, "it is read, and so isn't written");
-    }
 }
 
 /* Opens the file for the text. */
-static int opened(const char *output, const char *path) {
+static int opened(const char *output) {
     struct stat status;
-    spare(output, path);
+    spare(output);
     int file = open(output, O_WRONLY | O_CREAT | O_CLOEXEC, 0666);
     if (file < 0 || fstat(file, &status) != 0) refuse(output, "%s", strerror(errno));
     if (S_ISREG(status.st_mode) && ftruncate(file, 0) != 0)
@@ -147,7 +152,9 @@ static struct part *parts_of(const char *path, const char *bytes, size_t length,
         struct part *part = &parts[*count];
         part->path = other;
         part->bytes = mapped(other, true, &part->length);
-        *count += is_log(part, &parts[0]);
+        bool is_part = is_log(part, &parts[0]);
+        *count += is_part;
+        read_count -= part->bytes && !is_part;
     }
     if (files) closedir(files);
     qsort(parts + 1, *count - 1, sizeof *parts, by_begin);
@@ -188,7 +195,7 @@ static void convert(const char *path, const char *output) {
     mark_order(&told);
     if (events) kernel_read(&kernel, &told, kernel_path, events, kernel_length);
     text.path = output;
-    if (output) text.file = opened(output, path);
+    if (output) text.file = opened(output);
     write_facts(&told, &kernel, &names, &text);
     if (output && close(text.file) != 0) refuse(output, "%s", strerror(errno));
 }

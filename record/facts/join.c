@@ -13,7 +13,7 @@ enum { MOST_PLACE = UINT16_MAX }; /* has the bits of an object that its address 
 struct source {
     struct log log;
     uint64_t number, end, clock; /* of the next record; the clock is the latest time up to it */
-    uint32_t first_chunk, first_place, place_count;
+    uint32_t first_chunk, first_head, first_place, place_count;
 };
 
 struct joining {
@@ -24,8 +24,8 @@ struct joining {
     struct joined *joined;
     struct table threads, processes; /* by source and number of its own */
     struct table executed; /* by process the thread that became another program, or NONE */
-    bool *has_head;        /* by chunk */
-    uint32_t thread_count, process_count;
+    bool *has_head;        /* by head */
+    uint32_t thread_count, process_count, head_count;
 };
 
 /* Returns the next record of a source. */
@@ -35,8 +35,7 @@ static const struct record *next_of(const struct source *source) {
 
 /* Goes to the next record of a source. Returns whether there is one. */
 static bool go_on(struct source *source) {
-    do source->number++;
-    while (source->number < source->end && !source->log.slots[source->number]);
+    source->number++;
     if (source->number >= source->end) return false;
     const struct record *record = next_of(source);
     if (record->event != EVENT_TEXT && record->time > source->clock) source->clock = record->time;
@@ -87,24 +86,35 @@ static void renumber(struct joining *all, uint32_t source, struct record *record
     all->header->unplaced += is_there && number > MOST_PLACE;
 }
 
+/* Puts the head of a thread. The first one of its chunk is there, too, also if no record of that
+ * counts. */
+static void put_head(struct record *records, uint32_t slot, uint32_t process, uint32_t thread) {
+    struct chunk_head *its = (struct chunk_head *)&records[slot];
+    struct chunk_head *first = (struct chunk_head *)&records[slot & ~(CHUNK_RECORDS - 1u)];
+    for (struct chunk_head *head = its; head->mark == 0; head = first) {
+        head->mark = CHUNK_MARK;
+        head->process = process;
+        head->thread = thread;
+    }
+    its->process = process;
+    its->thread = thread;
+}
+
 /* Puts the next record of a source. */
 static void put(struct joining *all, uint32_t source) {
     const struct source *of = &all->sources[source];
-    uint32_t slot = of->log.slots[of->number], chunk = slot / CHUNK_RECORDS;
-    const struct chunk_head *head = (const struct chunk_head *)slot_at(&of->log,
-                                                                       chunk * CHUNK_RECORDS);
+    uint32_t slot = of->log.slots[of->number], at = head_of(&of->log, slot);
+    uint32_t head_slot = of->log.heads[at].slot;
+    const struct chunk_head *head = (const struct chunk_head *)slot_at(&of->log, head_slot);
     char *into = all->bytes + HEADER_BYTES + (size_t)of->first_chunk * CHUNK_BYTES;
-    struct record *record = (struct record *)(into + sizeof *record * slot);
+    struct record *records = (struct record *)into, *record = &records[slot];
     uint32_t thread = thread_of(all, source, head);
     note_program(all, head, record->event, thread);
     record->number = all->header->next_number++;
     if (record->event != EVENT_TEXT) renumber(all, source, record);
-    if (all->has_head[of->first_chunk + chunk]) return;
-    all->has_head[of->first_chunk + chunk] = true;
-    struct chunk_head *its = (struct chunk_head *)(into + (size_t)chunk * CHUNK_BYTES);
-    its->mark = CHUNK_MARK;
-    its->process = process_of(all, source, head->process);
-    its->thread = thread;
+    if (all->has_head[of->first_head + at]) return;
+    all->has_head[of->first_head + at] = true;
+    put_head(records, head_slot, process_of(all, source, head->process), thread);
 }
 
 /* Returns the source whose next record is the first by the clocks. One that begins later than that
@@ -157,11 +167,12 @@ static void open_source(struct joining *all, const struct part *part) {
            source->place_count * sizeof *joined->places);
     joined->first_place[all->count - 1] = joined->place_count;
     joined->place_count += source->place_count;
-    if (header->first_lost) joined->missing += header->next_number - header->first_lost;
+    joined->missing += log_missing(&source->log);
 }
 
 /* Sets the counts that each log adds to. An atomic field takes an assignment of its own. */
 static void clear_counts(struct header *header) {
+    header->contents &= ~(uint32_t)HAS_TIMES;
     header->lost = 0;
     header->first_lost = 0;
     header->left_out = 0;
@@ -176,6 +187,8 @@ static void clear_counts(struct header *header) {
 static void add_header(struct joining *all, struct source *source) {
     const struct header *header = &source->log.header;
     source->first_chunk = (uint32_t)all->header->next_chunk;
+    source->first_head = all->head_count;
+    all->head_count += source->log.first_head[source->log.chunks];
     all->header->next_chunk += source->log.chunks;
     all->header->next_thread += header->next_thread;
     if (header->ended > all->header->ended) all->header->ended = header->ended;
@@ -201,7 +214,7 @@ void log_join(struct log *log, const struct part *parts, uint32_t count) {
     header.chunks = header.next_chunk;
     size_t length = HEADER_BYTES + header.chunks * CHUNK_BYTES;
     all.bytes = resized(NULL, length);
-    all.has_head = memset(resized(NULL, header.chunks), 0, header.chunks);
+    all.has_head = memset(resized(NULL, all.head_count), 0, all.head_count);
     for (uint32_t i = 0; i < count; i++) copy(&all, &all.sources[i]);
     put_all(&all);
     memcpy(all.bytes, &header, HEADER_BYTES);

@@ -11,6 +11,7 @@ enum {
     LEVEL_OTHER = 0, /* of the policies below SCHED_FIFO */
     LEVEL_MOST = 100,
     NAME_BYTES = 64,
+    MODULE_BYTES = 1 << 24,
     MOST_THREADS = 65536, /* of a text of facts, of which one is the owner that isn't known */
 };
 
@@ -40,7 +41,7 @@ struct mutex {
 
 /* A file that is loaded in a process. */
 struct module {
-    uint64_t begin;
+    uint64_t begin, length; /* the length is MODULE_BYTES where the log doesn't say it */
     uint32_t process, name;
 };
 
@@ -53,6 +54,11 @@ struct joined {
     uint64_t missing; /* records for which the logs had no room, and those behind them */
 };
 
+/* The head of a thread's records, which go on up to the next one or the chunk's end. */
+struct head {
+    uint32_t slot, thread;
+};
+
 /* Records have numbers from 0 on here, in the order of those of the log, without TEXTs. */
 struct log {
     const char *path;
@@ -63,8 +69,9 @@ struct log {
     const uint64_t *places;      /* addresses in the code, or 0 */
     uint32_t place_count;
     uint32_t chunks, count;
-    uint32_t *slots;    /* by record; by chunk of a slot: */
-    uint32_t *owners;   /* the thread */
+    uint32_t *slots;      /* by record */
+    struct head *heads;
+    uint32_t *first_head; /* by chunk; one more has their count */
     uint32_t *next;     /* by record the next one of its thread, or NONE */
     uint32_t *mutex_of; /* by record, or NONE */
     struct thread *threads;
@@ -74,6 +81,7 @@ struct log {
     uint32_t thread_count, mutex_count, name_count, module_count;
     bool has_waits;         /* for what isn't a mutex */
     bool has_failed;        /* it has a DESTROY_FAILED */
+    uint64_t left_out;      /* records that it has, and that come after a lost one */
     struct table failed;    /* the slots of the DESTROYs that failed */
     struct table by_number; /* the threads */
     struct table parents;   /* by process the one that forked it */
@@ -85,9 +93,12 @@ struct log {
 void log_read(struct log *log, const char *path, const char *bytes, size_t length,
               const struct joined *joined);
 
-/* Finds the slots of the records by their numbers, and nothing else. Returns a number above each
- * one that counts. Refuses what log_read does. */
+/* Finds the slots of the records in the order of their numbers, from 1 on, and nothing else.
+ * Returns one more than how many count. Refuses what log_read does. */
 uint64_t log_index(struct log *log, const char *path, const char *bytes, size_t length);
+
+/* Returns how many records the log lacks for which there was no room, with those after them. */
+uint64_t log_missing(const struct log *log);
 
 /* Returns of which of several logs a process is. */
 static inline uint32_t part_of(const struct log *log, uint32_t process) {
@@ -115,12 +126,21 @@ static inline uint32_t next_record(const struct log *log, uint32_t record) {
     return record + 1;
 }
 
+/* Returns the head of the records of a slot. */
+static inline uint32_t head_of(const struct log *log, uint32_t slot) {
+    const uint32_t *first = &log->first_head[slot / CHUNK_RECORDS];
+    uint32_t head = first[0];
+    while (head + 1 < first[1] && log->heads[head + 1].slot < slot) head++;
+    return head;
+}
+
 static inline uint32_t thread_at(const struct log *log, uint32_t record) {
-    return log->owners[log->slots[record] / CHUNK_RECORDS];
+    return log->heads[head_of(log, log->slots[record])].thread;
 }
 
 static inline const struct chunk_head *chunk_at(const struct log *log, uint32_t record) {
-    return (const struct chunk_head *)slot_at(log, log->slots[record] & ~(CHUNK_RECORDS - 1u));
+    uint32_t head = head_of(log, log->slots[record]);
+    return (const struct chunk_head *)slot_at(log, log->heads[head].slot);
 }
 
 /* Returns the address that a record is of, without its place. */

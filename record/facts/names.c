@@ -7,8 +7,6 @@
 #include <string.h>
 
 enum {
-    MODULE_BYTES =
-        1 << 24,       /* an address further than this behind the begin of a file isn't in it */
     MOST_PARENTS = 16, /* processes in which a file is looked for that a process was forked with */
     INIT_BYTES = 48,   /* of the place in a mutex's name */
     ANY_PROCESS = 0,
@@ -149,7 +147,7 @@ static const struct module *nearest(const struct module *modules, uint32_t count
             most = middle;
     }
     const struct module *last = least ? &modules[least - 1] : NULL;
-    return last && last->process == process && address - last->begin < MODULE_BYTES ? last : NULL;
+    return last && last->process == process ? last : NULL;
 }
 
 /* Returns the nearer one of two modules, each of which may be NULL. */
@@ -157,6 +155,11 @@ static const struct module *nearer(const struct module *one, const struct module
     if (!one || !other) return one ? one : other;
     if (one->begin != other->begin) return one->begin > other->begin ? one : other;
     return one->name < other->name ? one : other;
+}
+
+/* Returns a module that begins at an address or before, or NULL where it ends before it. */
+static const struct module *if_in_it(const struct module *module, uint64_t address) {
+    return module && address - module->begin < module->length ? module : NULL;
 }
 
 /* Returns the module at an address of a process, or of those that forked it, or NULL. */
@@ -168,7 +171,7 @@ static const struct module *module_at(const struct names *names, uint32_t proces
         found = nearer(found, nearest(names->modules, log->module_count, process, address));
         process = table_get(&log->parents, process, 0);
     }
-    return found;
+    return if_in_it(found, address);
 }
 
 /* Returns a file and the offset in it, of which the end is kept, or the address. */
@@ -236,7 +239,7 @@ static struct name where(struct names *names, const struct mutex *mutex) {
         return name_of_address(names, mutex->process, mutex->address);
     const struct module *module = nearest(names->shared, names->log->module_count, ANY_PROCESS,
                                           mutex->address);
-    return in_module(names, module, mutex->address);
+    return in_module(names, if_in_it(module, mutex->address), mutex->address);
 }
 
 /* Returns where a mutex was initialised, which is empty if it isn't known. */

@@ -319,9 +319,8 @@ static void put_loss(struct order *order, uint64_t count) {
 
 /* Writes how many records are missing, if there was no room for one: it, and all after it. */
 static void put_missing(struct order *order) {
-    const struct header *header = &order->log->header;
-    uint64_t missing = order->log->joined ? order->log->joined->missing : 0;
-    if (header->first_lost) missing = header->next_number - header->first_lost;
+    const struct joined *joined = order->log->joined;
+    uint64_t missing = joined ? joined->missing : log_missing(order->log);
     if (missing) put_loss(order, missing);
 }
 

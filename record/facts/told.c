@@ -15,6 +15,8 @@ struct world {
     uint32_t *level;
     uint32_t *last;             /* by thread its last record, or NONE */
     struct table selves, tasks; /* threads by process and pthread_t, by task */
+    struct table creates;       /* by process and pthread_t the CREATE of a thread that is to begin */
+    struct table begun;         /* the CREATEs whose threads began before them */
     uint32_t at;                /* the record */
 };
 
@@ -62,11 +64,45 @@ static void has_level(struct world *world, uint32_t thread, uint8_t level) {
     put(world, PRIORITY, thread, NONE)->other = level;
 }
 
+static void create_thread(struct world *world, const struct record *record) {
+    uint32_t process = chunk_at(world->log, world->at)->process;
+    if (table_get(&world->begun, world->at, 0) == NONE)
+        *table_at(&world->creates, process, record->object) = world->at;
+}
+
+/* Returns the next CREATE of a thread that has begun, or NONE. */
+static uint32_t next_create(const struct world *world, uint32_t process, uint64_t self) {
+    const struct log *log = world->log;
+    for (uint32_t at = world->at + 1; at < log->count; at++) {
+        const struct record *record = record_at(log, at);
+        bool is_wanted = record->event == EVENT_CREATE && record->object == self;
+        if (is_wanted && chunk_at(log, at)->process == process) return at;
+    }
+    return NONE;
+}
+
+/* Returns the level with which a thread begins. If the recorder didn't ask for it, it is that of its
+ * CREATE. */
+static uint8_t first_level(struct world *world, uint32_t process, const struct record *record) {
+    uint32_t *known = table_at(&world->creates, process, record->object), create = *known;
+    *known = NONE;
+    if ((record->detail & 15) != POLICY_KEPT) return level_of(record->detail, LEVEL_OTHER);
+    if (create == NONE) {
+        create = next_create(world, process, record->object);
+        if (create == NONE) return LEVEL_OTHER;
+        *table_at(&world->begun, create, 0) = 0;
+    }
+    uint16_t detail = record_at(world->log, create)->detail;
+    bool is_creators = (detail & 15) == POLICY_KEPT;
+    return is_creators ? (uint8_t)world->level[thread_at(world->log, create)]
+                       : level_of(detail, LEVEL_OTHER);
+}
+
 static void begin_thread(struct world *world, uint32_t thread, const struct record *record) {
     const struct chunk_head *head = chunk_at(world->log, world->at);
     *table_at(&world->selves, head->process, record->object) = thread;
     *table_at(&world->tasks, head->task, 0) = thread;
-    has_level(world, thread, level_of(record->detail, LEVEL_OTHER));
+    has_level(world, thread, first_level(world, head->process, record));
 }
 
 static void set_priority(struct world *world, const struct record *record) {
@@ -96,6 +132,12 @@ static void go_on(struct world *world, uint32_t thread, uint32_t but) {
     if (mutex == NONE || mutex == but) return;
     world->awaits[thread] = NONE;
     put(world, GAVE_UP, thread, mutex);
+}
+
+/* A thread has changed a ceiling. If it waited to do so, that is over. */
+static void change_ceiling(struct world *world, uint32_t thread, uint32_t mutex) {
+    if (world->awaits[thread] == mutex) go_on(world, thread, NONE);
+    see_ceiling(world, thread, mutex);
 }
 
 /* A call of a thread has ended, so that it doesn't wait for itself. */
@@ -250,8 +292,9 @@ static void tell(struct world *world) {
     uint32_t thread = thread_at(log, world->at), mutex = log->mutex_of[world->at];
     switch (record->event) {
     case EVENT_THREAD: begin_thread(world, thread, record); break;
+    case EVENT_CREATE: create_thread(world, record); break;
     case EVENT_PRIORITY: set_priority(world, record); break;
-    case EVENT_CEILING: see_ceiling(world, thread, mutex); break;
+    case EVENT_CEILING: change_ceiling(world, thread, mutex); break;
     case EVENT_REQUEST: request(world, thread, mutex); break;
     case EVENT_GRANTED: grant(world, thread, mutex); break;
     case EVENT_FAILED: fail(world, thread, mutex); break;

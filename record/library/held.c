@@ -10,7 +10,7 @@ __thread struct held held[MOST_HELD];
 void held_start(struct shared *in) {
     if (!inner_shows_waiters()) return;
     held_counts = in->requests;
-    log_step = 2;
+    log_step *= 2;
 }
 
 bool held_announce(const pthread_mutex_t *mutex) {
@@ -39,7 +39,8 @@ void log_catch_up(void) {
                                                           .detail = held[i].detail,
                                                           .time = held[i].time,
                                                           .value = held[i].took });
-        if (record) atomic_store_explicit(&record->number, held[i].number, memory_order_release);
+        uint64_t number = log_step ? held[i].number : log_next_number(held[i].time);
+        if (record) atomic_store_explicit(&record->number, number, memory_order_release);
     }
     log_cursor.held = 0;
     log_count_left_out();

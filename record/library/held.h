@@ -2,9 +2,9 @@
  * once somebody waits for the mutex, or once its thread has another record to put. If neither
  * happens before the release, neither of the two is put.
  *
- * All numbers of records are even then. A grant that is put later has the odd number behind those
- * that were given as it happened. So it has its place in the order of all records. The collector
- * numbers them anew as it writes the log. */
+ * A grant that is put later has the number of its time. So it has its place in the order of all
+ * records. Where numbers are counted, all are even, and such a grant has the odd number behind those
+ * that were given as it happened. The collector numbers the records anew as it writes the log. */
 #ifndef PIM_HELD_H
 #define PIM_HELD_H
 
@@ -20,7 +20,7 @@ enum { MOST_HELD = 8, /* the grants of further mutexes are put */
 struct held {
     const pthread_mutex_t *mutex;
     uint64_t place;        /* in the code, of the call */
-    uint64_t time, number; /* of the grant */
+    uint64_t time, number; /* of the grant; the number is there if numbers are counted */
     uint32_t took;         /* nanoseconds of the call */
     uint32_t requests;     /* of the mutex, as the call began */
     uint16_t detail;
@@ -109,7 +109,9 @@ static inline bool held_keep(const pthread_mutex_t *mutex, enum call call, const
         kept->place = wrappers_are_known ? places_caller(caller) : *caller;
         kept->time = clock_time();
         kept->took = log_saturated(kept->time - asked->began);
-        kept->number = atomic_load_explicit(&log_header->next_number, memory_order_relaxed) - 1;
+        if (__builtin_expect(log_step != 0, 0))
+            kept->number =
+                atomic_load_explicit(&log_header->next_number, memory_order_relaxed) - 1;
         kept->requests = asked->requests;
         kept->detail = detail;
         kept->call = (uint8_t)call;

@@ -29,7 +29,8 @@ static char *_Atomic parts[MOST_SLOTS / PART_SLOTS]; /* where the slots are; NUL
 static uint64_t slots;        /* for how many chunks the memory has room */
 static _Atomic uint64_t touched; /* slots below this one were touched by this process */
 static bool is_first_program; /* of those that the recording has started */
-static uint64_t number_when_begun;
+static bool are_chunks_shared; /* by threads, one after another */
+static const struct record *next_when_begun; /* the record of the first thread */
 static uint32_t process;
 
 /* ---- the collector ---- */
@@ -95,6 +96,18 @@ static bool map_memory(int memory, const struct answer *answer) {
     return true;
 }
 
+/* Returns whether a clock that is read twice in a row tells two times. Then so do two threads of
+ * which one passes a mutex to the other. */
+static bool has_fine_clock(void) {
+    uint64_t before = clock_time();
+    for (int i = 0; i < 64; i++) {
+        uint64_t now = clock_time();
+        if (now <= before) return false;
+        before = now;
+    }
+    return true;
+}
+
 /* Gets and maps the memory of a log. Returns whether there is one. */
 static bool ask(const char *name) {
     const struct request request = { .version = SHARED_VERSION, .process = (uint32_t)getpid() };
@@ -106,6 +119,8 @@ static bool ask(const char *name) {
     if (is_reached) memory = receive(collector, &answer);
     if (memory >= 0) is_mapped = map_memory(memory, &answer);
     is_first_program = answer.is_first;
+    are_chunks_shared = answer.is_shared;
+    log_step = has_fine_clock() ? 0 : 1;
     if (is_mapped && answer.is_contended) held_start(shared);
     if (is_mapped && answer.has_stacks) stacks_start();
     if (is_mapped) is_mapped = send(collector, "m", 1, MSG_NOSIGNAL) == 1;
@@ -243,7 +258,7 @@ void log_make(void) {
     header->record_bytes = sizeof(struct record);
     header->chunk_records = CHUNK_RECORDS;
     header->known = inner_known;
-    header->contents = HAS_PLACES;
+    header->contents = HAS_PLACES | (log_step ? 0 : HAS_TIMES);
     header->process = process = (uint32_t)getpid();
     header->parent = (uint32_t)getppid();
     header->began_monotonic = clock_time();
@@ -252,17 +267,17 @@ void log_make(void) {
     touch_slots(FEW_SLOTS);
     atomic_store(&header->next_thread, 1);
     /* Last: the collector takes the header from now on. */
-    atomic_store(&header->next_number, log_step);
+    atomic_store(&header->next_number, log_step ? log_step : 1);
     wipe_on_fork();
     log_header = made = header;
 }
 
 void log_has_begun(void) {
-    if (log_header) number_when_begun = atomic_load(&log_header->next_number);
+    next_when_begun = log_cursor.next;
 }
 
 bool log_remove_unused(void) {
-    bool is_used = atomic_load(&log_header->next_number) != number_when_begun;
+    bool is_used = atomic_load(&log_header->next_thread) > 2 || log_cursor.next != next_when_begun;
     if (is_used || is_first_program) return false;
     atomic_store(&shared->is_unused, 1);
     return true;
@@ -292,72 +307,149 @@ static uint64_t take_fresh_slot(void) {
     return atomic_fetch_add(&shared->next_slot, 1);
 }
 
-/* Returns a slot for a chunk, or NULL. One that nobody has touched ahead is touched here. */
-static struct chunk_head *take_slot(void) {
-    uint64_t slot = take_free_slot();
-    if (slot == slots) slot = take_fresh_slot();
-    if (slot >= slots) return NULL;
-    if (slot >= atomic_load(&touched) && !touch(slot, 1)) return NULL;
-    return (struct chunk_head *)address_of(slot);
+/* Returns where a slot is that is to be used, or NULL where it can't be had. One that nobody has
+ * touched ahead is touched here. */
+static char *use_slot(uint64_t slot) {
+    bool is_there = slot < slots && (slot < atomic_load(&touched) || touch(slot, 1));
+    return is_there ? address_of(slot) : NULL;
+}
+
+static void give_back_slot(uint64_t slot) {
+    atomic_fetch_or(&shared->free[slot / 64], UINT64_C(1) << slot % 64);
+}
+
+/* Where a thread's records begin: in a chunk of its own, or behind those of others. */
+struct beginning {
+    char *chunk; /* NULL where there is no room */
+    uint64_t slot, used;
+    uint64_t place; /* of a new chunk in the file, from 1 on */
+};
+
+/* Begins in a new chunk. */
+static struct beginning in_new_chunk(void) {
+    struct beginning begun = { .slot = slots };
+    struct header *header = log_header;
+    uint64_t chunks = atomic_load(&header->chunks);
+    if (atomic_load(&header->next_chunk) >= chunks) return begun;
+    begun.slot = take_free_slot();
+    if (begun.slot == slots) begun.slot = take_fresh_slot();
+    char *memory = use_slot(begun.slot);
+    if (!memory) return begun;
+    begun.place = atomic_fetch_add(&header->next_chunk, 1) + 1;
+    if (begun.place <= chunks)
+        begun.chunk = memory;
+    else
+        give_back_slot(begun.slot); /* other threads were quicker */
+    return begun;
+}
+
+/* Begins in a chunk that an ended thread left. */
+static struct beginning in_left_chunk(void) {
+    struct beginning begun = { .chunk = NULL };
+    bool is_wanted = are_chunks_shared && !atomic_load(&log_is_quiet);
+    for (size_t i = 0; is_wanted && !begun.chunk && i < MOST_LEFT; i++) {
+        uint64_t left = atomic_load_explicit(&shared->left[i], memory_order_relaxed);
+        if (left) left = atomic_exchange(&shared->left[i], 0);
+        if (!left) continue;
+        begun.slot = (left >> 16) - 1;
+        begun.used = left & 0xffff;
+        begun.chunk = use_slot(begun.slot);
+    }
+    return begun;
+}
+
+/* Puts the head of the thread's records. */
+static void put_head(const struct beginning *begun) {
+    struct record *records = (struct record *)begun->chunk;
+    struct chunk_head *head = (struct chunk_head *)&records[begun->used];
+    if (log_cursor.thread == 0)
+        log_cursor.thread = (uint32_t)atomic_fetch_add(&log_header->next_thread, 1);
+    head->process = process;
+    head->task = log_cursor.task;
+    head->thread = log_cursor.thread;
+    head->index = log_cursor.chunks++;
+    atomic_store_explicit(&head->place, begun->place, memory_order_relaxed);
+    atomic_store_explicit(&head->mark, CHUNK_MARK, memory_order_release);
+    log_cursor.slot = begun->slot;
+    log_cursor.next = &records[begun->used + 1];
+    log_cursor.end = &records[CHUNK_RECORDS];
 }
 
 bool log_open_chunk(void) {
-    struct header *header = log_header;
+    struct beginning begun = { .chunk = NULL };
     int error = errno;
-    uint64_t chunks = atomic_load(&header->chunks), chunk = chunks;
-    if (atomic_load(&header->next_chunk) < chunks) chunk = atomic_fetch_add(&header->next_chunk, 1);
-    struct chunk_head *head = chunk < chunks ? take_slot() : NULL;
-    if (head) {
-        if (log_cursor.thread == 0)
-            log_cursor.thread = (uint32_t)atomic_fetch_add(&header->next_thread, 1);
-        head->process = process;
-        head->task = log_cursor.task;
-        head->thread = log_cursor.thread;
-        head->index = log_cursor.chunks++;
-        atomic_store_explicit(&head->place, chunk + 1, memory_order_relaxed);
-        atomic_store_explicit(&head->mark, CHUNK_MARK, memory_order_release);
-        log_cursor.next = (struct record *)head + 1;
-        log_cursor.end = (struct record *)head + CHUNK_RECORDS;
-    }
+    if (log_cursor.chunks == 0) begun = in_left_chunk();
+    if (!begun.chunk) begun = in_new_chunk();
+    if (begun.chunk) put_head(&begun);
     errno = error;
-    return head != NULL;
+    return begun.chunk != NULL;
 }
 
-void log_close_chunk(void) {
-    if (!log_cursor.end || !log_begin()) return;
-    struct chunk_head *head = (struct chunk_head *)(log_cursor.end - CHUNK_RECORDS);
+static void count_lost(void) {
+    atomic_fetch_add(&log_header->lost, log_cursor.lost);
+    log_cursor.lost = 0;
+}
+
+/* Leaves the thread's chunk to another thread. Returns false if enough are left. */
+static bool leave(void) {
+    uint64_t used = CHUNK_RECORDS - (uint64_t)(log_cursor.end - log_cursor.next);
+    uint64_t left = (log_cursor.slot + 1) << 16 | used;
+    for (size_t i = 0; i < MOST_LEFT; i++) {
+        uint64_t none = 0;
+        bool is_free = atomic_load_explicit(&shared->left[i], memory_order_relaxed) == 0;
+        if (is_free && atomic_compare_exchange_strong(&shared->left[i], &none, left)) return true;
+    }
+    return false;
+}
+
+/* Gives the thread's chunk to another thread, if that is wanted and can be, or to the collector. */
+static void end_chunk(bool may_leave) {
+    if (!log_begin()) return;
+    if (log_cursor.lost) count_lost();
     bool is_full = log_cursor.next == log_cursor.end; /* the collector has it already, or another */
+    bool is_long = log_cursor.end - log_cursor.next >= LEAST_LEFT;
+    bool is_left = may_leave && is_long && leave();
+    if (!is_full && !is_left) {
+        struct chunk_head *head = (struct chunk_head *)(log_cursor.end - CHUNK_RECORDS);
+        atomic_fetch_or_explicit(&head->place, CHUNK_IS_CLOSED, memory_order_release);
+    }
     log_cursor.next = log_cursor.end = NULL;
-    if (!is_full) atomic_fetch_or_explicit(&head->place, CHUNK_IS_CLOSED, memory_order_release);
     log_end();
 }
 
-void log_lose(void) {
-    uint64_t number = atomic_fetch_add(&log_header->next_number, log_step);
+void log_close_chunk(void) {
+    end_chunk(false);
+}
+
+void log_leave_chunk(void) {
+    end_chunk(are_chunks_shared && !atomic_load(&log_is_quiet));
+}
+
+void log_lose(uint64_t time) {
+    uint64_t number = log_next_number(time);
     uint64_t first = atomic_load(&log_header->first_lost);
     while (first == 0 || number < first)
         if (atomic_compare_exchange_weak(&log_header->first_lost, &first, number)) break;
-    atomic_fetch_add(&log_header->lost, 1);
+    if (++log_cursor.lost == MOST_LOST) count_lost();
 }
 
 /* ---- texts ---- */
 
 static void write_part(const char *text, size_t length) {
-    struct text_record *record = (struct text_record *)log_room();
+    struct text_record *record = (struct text_record *)log_room(0);
     if (!record) return;
     memcpy(record->text, text, length);
     record->event = EVENT_TEXT;
     record->length = (uint8_t)length;
-    log_number((struct record *)record);
+    log_number((struct record *)record, 0);
 }
 
-void log_put_text(enum event event, uint64_t object, const char *text, size_t most) {
+void log_put_text(struct record first, const char *text, size_t most) {
     size_t length = strnlen(text, most < LONGEST_TEXT ? most : LONGEST_TEXT);
     if (!log_begin()) return;
-    log_write((struct record){ .event = (uint8_t)event,
-                               .object = object,
-                               .value = (uint32_t)length,
-                               .time = clock_time() });
+    first.value = (uint32_t)length;
+    first.time = clock_time();
+    log_write(first);
     for (size_t at = 0; at < length; at += TEXT_BYTES)
         write_part(text + at, length - at < TEXT_BYTES ? length - at : TEXT_BYTES);
     log_end();

@@ -2,7 +2,8 @@
  * the file. FORMAT.md specifies the file.
  *
  * A record takes its number after its call has been granted a mutex, and before its call releases
- * one. So the numbers are a true order of the grants, and no mutex has two owners in the log. */
+ * one. So the numbers are a true order of the grants, and no mutex has two owners in the log. They
+ * are times, so that threads share no counter; where the clock is too coarse, they are counted. */
 #ifndef PIM_LOG_H
 #define PIM_LOG_H
 
@@ -16,7 +17,7 @@
 #include <time.h>
 
 enum {
-    LOG_VERSION = 3,
+    LOG_VERSION = 4,
     LOG_BYTE_ORDER = 0x01020304,
     FIELDS_BYTES = 4096, /* of the header, without the table of places */
     PLACE_SLOTS = 8192,
@@ -26,6 +27,7 @@ enum {
     CHUNK_RECORDS = 512,
     TEXT_BYTES = 22,
     LONGEST_TEXT = 4095,
+    MODULE_PAGE = 4096, /* whatever the machine's page is */
 };
 
 enum event {
@@ -65,6 +67,7 @@ enum call {
     CALL_TIMEDLOCK = 2,
     CALL_CLOCKLOCK = 3,
     CALL_CONDITION = 4,
+    CALL_CEILING = 5, /* of a REQUEST alone */
     OWNER_DIED = 0x80,
 };
 
@@ -80,7 +83,8 @@ enum kind {
 
 enum { TO_ALL = 1 }; /* how a broadcast gives */
 
-enum { HAS_PLACES = 1 }; /* of the header's `contents`: records of calls have places */
+/* Of the header's `contents`: records of calls have places; numbers are times. */
+enum { HAS_PLACES = 1, HAS_TIMES = 2 };
 
 enum { POLICY_KEPT = 15 }; /* the policy is as it was before, or as that of the creator */
 
@@ -102,13 +106,15 @@ struct text_record {
     uint8_t length;
 };
 
+/* In place of a record it is the head of another thread, whose records follow: the one before has
+ * ended. */
 struct chunk_head {
     _Atomic uint64_t mark; /* CHUNK_MARK; written last */
     uint32_t process;
     uint32_t task;   /* the kernel's number of the thread */
     uint32_t thread; /* the log's own number of the thread, which no other has */
     uint32_t index;  /* of this chunk among the thread's, from 0 */
-    _Atomic uint64_t place; /* in memory: the chunk's place in the file, from 1 on; 0 in the file */
+    _Atomic uint64_t place; /* of a first head in memory: the place in the file, from 1 on; else 0 */
 };
 
 /* Added to the place once the thread puts no more records there. */
@@ -132,7 +138,8 @@ struct header {
     uint32_t command_bytes;
     uint32_t contents;
     uint64_t ended; /* in the file: when the collector saw that no process has the memory, or 0 */
-    _Alignas(64) _Atomic uint64_t next_number;
+    uint64_t records; /* in the file: how many there are */
+    _Alignas(64) _Atomic uint64_t next_number; /* in memory no more than 1, if numbers are times */
     _Alignas(64) _Atomic uint64_t next_chunk;
     _Atomic uint64_t next_thread;
     _Atomic uint64_t lost;       /* records for which there was no room */
@@ -150,6 +157,7 @@ _Static_assert(sizeof(struct text_record) == 32, "FORMAT.md: a part of a text ha
 _Static_assert(CHUNK_RECORDS * sizeof(struct record) == CHUNK_BYTES, "FORMAT.md: a chunk");
 _Static_assert(sizeof(struct chunk_head) == 32, "FORMAT.md: the head of a chunk has 32 bytes");
 _Static_assert(offsetof(struct header, chunks) == 32, "FORMAT.md: the header");
+_Static_assert(offsetof(struct header, records) == 80, "FORMAT.md: the header");
 _Static_assert(offsetof(struct header, next_number) == 128, "FORMAT.md: the header");
 _Static_assert(offsetof(struct header, next_chunk) == 192, "FORMAT.md: the header");
 _Static_assert(offsetof(struct header, dropped) == 232, "FORMAT.md: the header");
@@ -169,6 +177,9 @@ struct cursor {
     uint32_t depth;      /* above 0: the calls are the recorder's own */
     uint32_t held;       /* grants that aren't put: held.h */
     uint32_t uncounted;  /* calls that aren't put, and that the header doesn't count yet */
+    uint32_t lost;       /* records for which there was no room, and that it doesn't count yet */
+    uint64_t number;     /* of the last record, if numbers are times */
+    uint64_t slot;       /* of the chunk */
     bool is_introduced; /* its THREAD record is written, or is being written */
     bool is_behind;      /* there are such grants or such calls */
     volatile bool is_writing;
@@ -184,7 +195,7 @@ extern HIDDEN union own_page log_own;
 #define log_header log_own.header
 
 extern HIDDEN __thread struct cursor log_cursor;
-extern HIDDEN uint64_t log_step; /* from one number to the next */
+extern HIDDEN uint64_t log_step; /* from one number to the next, or 0 if numbers are times */
 extern HIDDEN _Atomic bool log_is_quiet; /* the recorder makes no system call any more */
 
 /* Gets the log's memory from the collector that the environment names. If it can't be reached, or
@@ -215,8 +226,12 @@ bool log_open_chunk(void);
 /* Gives the thread's chunk to the collector. A further record begins another chunk. */
 void log_close_chunk(void);
 
-/* Counts a record for which there is no room. */
-void log_lose(void);
+/* Leaves what is free of an ending thread's chunk to another thread, or gives it to the
+ * collector. */
+void log_leave_chunk(void);
+
+/* Counts a record of a time, or 0, for which there is no room. */
+void log_lose(uint64_t time);
 
 /* Puts the grants that aren't put, and counts the calls. */
 void log_catch_up(void);
@@ -224,8 +239,8 @@ void log_catch_up(void);
 /* Counts the calls that aren't put. */
 void log_count_left_out(void);
 
-/* Puts a record with a text behind it, of which at most `most` bytes are taken. */
-void log_put_text(enum event event, uint64_t object, const char *text, size_t most);
+/* Puts a record of now with a text behind it, of which at most `most` bytes are taken. */
+void log_put_text(struct record first, const char *text, size_t most);
 
 static inline uint32_t log_saturated(uint64_t nanoseconds) {
     return nanoseconds > UINT32_MAX ? UINT32_MAX : (uint32_t)nanoseconds;
@@ -262,26 +277,33 @@ static inline bool log_begin(void) {
     return true;
 }
 
-/* Returns the place of the thread's next record, or NULL where there is no room. */
-static inline struct record *log_room(void) {
+/* Returns the place of the thread's next record, of a time or 0, or NULL where there is no room. */
+static inline struct record *log_room(uint64_t time) {
     if (__builtin_expect(log_cursor.next == log_cursor.end, 0) && !log_open_chunk()) {
-        log_lose();
+        log_lose(time);
         return NULL;
     }
     return log_cursor.next++;
 }
 
+/* Returns the number of the thread's next record, of a time or 0. */
+static inline uint64_t log_next_number(uint64_t time) {
+    if (__builtin_expect(log_step != 0, 0))
+        return atomic_fetch_add_explicit(&log_header->next_number, log_step, memory_order_relaxed);
+    uint64_t least = log_cursor.number + 1;
+    return log_cursor.number = time > least ? time : least;
+}
+
 /* Gives a record, which is filled by then, its number. */
-static inline uint64_t log_number(struct record *record) {
-    uint64_t number =
-        atomic_fetch_add_explicit(&log_header->next_number, log_step, memory_order_relaxed);
+static inline uint64_t log_number(struct record *record, uint64_t time) {
+    uint64_t number = log_next_number(time);
     atomic_store_explicit(&record->number, number, memory_order_release);
     return number;
 }
 
 /* Fills a record but for its number. Returns NULL where there is no room. */
 static inline struct record *log_fill(struct record filled) {
-    struct record *record = log_room();
+    struct record *record = log_room(filled.time);
     if (!record) return NULL;
     record->time = filled.time;
     record->object = filled.object;
@@ -295,7 +317,7 @@ static inline struct record *log_fill(struct record filled) {
 /* Writes a record between log_begin and log_end. Returns its number, or 0 where it is lost. */
 static inline uint64_t log_write(struct record filled) {
     struct record *record = log_fill(filled);
-    return record ? log_number(record) : 0;
+    return record ? log_number(record, filled.time) : 0;
 }
 
 /* Puts a record of now. The time is read once no handler can come before the record, so that the

@@ -5,7 +5,22 @@
 #include <link.h>
 #include <unistd.h>
 
+enum { LONGEST_MODULE = 1 << 24 /* pages, which 24 bits don't hold */ };
+
 static size_t told;
+
+/* Returns how many pages a file takes from its load address on, or 0 where a MODULE has no room for
+ * the number. */
+static uint32_t pages_of(const struct dl_phdr_info *info) {
+    uint64_t end = 0;
+    for (size_t i = 0; i < info->dlpi_phnum; i++) {
+        const ElfW(Phdr) *part = &info->dlpi_phdr[i];
+        uint64_t its = part->p_vaddr + part->p_memsz;
+        if (part->p_type == PT_LOAD && its > end) end = its;
+    }
+    uint64_t pages = (end + MODULE_PAGE - 1) / MODULE_PAGE;
+    return pages < LONGEST_MODULE ? (uint32_t)pages : 0;
+}
 
 /* The program itself is the first, and has no name. */
 static int tell(struct dl_phdr_info *info, size_t size, void *place) {
@@ -19,7 +34,12 @@ static int tell(struct dl_phdr_info *info, size_t size, void *place) {
         path[length < 0 ? 0 : length] = '\0';
         name = path;
     }
-    log_put_text(EVENT_MODULE, info->dlpi_addr, name ? name : "", LONGEST_TEXT);
+    uint32_t pages = pages_of(info);
+    log_put_text((struct record){ .event = EVENT_MODULE,
+                                  .object = info->dlpi_addr,
+                                  .detail = (uint16_t)pages,
+                                  .how = (uint8_t)(pages >> 16) },
+                 name ? name : "", LONGEST_TEXT);
     return 0;
 }
 

@@ -257,13 +257,30 @@ EXPORT int pthread_mutex_destroy(pthread_mutex_t *mutex) {
     return error;
 }
 
-EXPORT int pthread_mutex_setprioceiling(pthread_mutex_t *mutex, int ceiling, int *old) {
-    if (!is_recorded()) return real.mutex_setprioceiling(mutex, ceiling, old);
-    struct record record = of_mutex(EVENT_CEILING, 0, mutex);
-    int error = real.mutex_setprioceiling(mutex, ceiling, old);
-    if (error) return error;
-    unsigned detail = (record.detail & 0xffu) | DETAIL_KNOWN | DETAIL_PROTECT;
+/* Puts a REQUEST where the mutex is owned. The C library locks and unlocks it within the call. */
+static struct asked request_to_change(const pthread_mutex_t *mutex, const uintptr_t *caller) {
+    struct asked asked = { .began = clock_time() };
+    if (inner_known & KNOWN_OWNER && inner_is_owned(mutex))
+        asked.is_put = request_owned(mutex, CALL_CEILING, caller, &asked.began);
+    return asked;
+}
+
+static void put_ceiling(const pthread_mutex_t *mutex, unsigned type, int ceiling) {
+    struct record record = of_address(EVENT_CEILING, 0, mutex);
+    unsigned detail = (type & 0xffu) | DETAIL_KNOWN | DETAIL_PROTECT;
     record.detail = (uint16_t)(detail | ((unsigned)ceiling & 127) << 8);
     log_put(record);
-    return 0;
+}
+
+EXPORT int pthread_mutex_setprioceiling(pthread_mutex_t *mutex, int ceiling, int *old) {
+    if (!is_recorded()) return real.mutex_setprioceiling(mutex, ceiling, old);
+    struct asked asked = request_to_change(mutex, CALLER);
+    unsigned type = inner_detail(mutex);
+    int error = real.mutex_setprioceiling(mutex, ceiling, old);
+    if (error == 0)
+        put_ceiling(mutex, type, ceiling);
+    else if (asked.is_put)
+        put_answer(mutex, CALL_CEILING, CALLER, asked.began, error);
+    if (held_is_on() && asked.is_put) held_withdraw(mutex);
+    return error;
 }

@@ -56,7 +56,7 @@ static bool is_own_record(void) {
 static bool begin_exec(const char *path) {
     bool is_told = is_own_record();
     int error = errno;
-    if (is_told) log_put_text(EVENT_EXEC, 0, path, LONGEST_TEXT);
+    if (is_told) log_put_text((struct record){ .event = EVENT_EXEC }, path, LONGEST_TEXT);
     if (is_told) log_close_chunk(); /* the process may be a forked one, which is gone then */
     errno = error;
     return is_told;

@@ -10,13 +10,16 @@
 #include <assert.h>
 
 enum {
-    SHARED_VERSION = 3,
+    SHARED_VERSION = 4,
     MOST_SLOTS = 65536, /* 1 GB of chunks that aren't written yet */
     FEW_SLOTS = 32,     /* 0.5 MB, which are touched as a program begins */
     MANY_SLOTS = 256,   /* 4 MB, once it has threads or a real-time priority */
     FREE_SLOTS = 64,    /* at least so many are free when a thread is created */
     PART_SLOTS = 256,   /* so many are mapped at a time */
     PART_BYTES = PART_SLOTS * CHUNK_BYTES,
+    MOST_LEFT = 64,     /* chunks that an ended thread left */
+    LEAST_LEFT = 32,    /* records that are free in one */
+    MOST_LOST = 64,     /* records that a thread counts by itself */
     QUIET_PARTS = 16,   /* 64 MB, which are mapped before a seccomp filter forbids that */
     PAGE = 4096,
     REQUEST_COUNTS = 2048,
@@ -28,6 +31,9 @@ struct shared {
     _Alignas(PAGE) struct header header; /* with the table of places */
     _Alignas(PAGE) _Atomic uint64_t next_slot; /* this one and those behind it had no chunk yet */
     _Atomic uint32_t is_unused;                /* 1: the log is to be removed */
+    /* Of each chunk that an ended thread left: how many records it has, and 1 + its slot in the bits
+     * from 16 on; or 0. */
+    _Alignas(64) _Atomic uint64_t left[MOST_LEFT];
     _Alignas(PAGE) _Atomic uint64_t free[MOST_SLOTS / 64]; /* a bit for each slot */
     _Alignas(PAGE) _Atomic uint64_t requests[REQUEST_COUNTS]; /* of mutexes, by address: held.h */
     _Alignas(PAGE) struct record slots[][CHUNK_RECORDS];
@@ -53,6 +59,8 @@ struct answer {
     uint32_t is_first; /* 1: of the first program of the recording */
     uint32_t is_contended; /* 1: only what is waited for is recorded */
     uint32_t has_stacks;   /* 1: with the stacks of requests */
+    uint32_t is_shared;    /* 1: a chunk may have several threads, one after another */
+    uint32_t unused;
     uint64_t slots;
 };
 

@@ -26,6 +26,11 @@ static uint16_t detail_of_priority(int policy, int priority) {
     return (uint16_t)(((unsigned)policy & 15) | ((unsigned)priority & 255) << 8);
 }
 
+static void put_name(pthread_t thread, const char *name) {
+    struct record of = { .event = EVENT_NAME, .object = (uint64_t)thread };
+    log_put_text(of, name, NAME_BYTES - 1);
+}
+
 /* The kernel's policy and priority are those that were set, not what is inherited. Where the kernel
  * may not be asked, the collector puts the level, and the thread has no name. */
 void thread_introduce(void) {
@@ -44,7 +49,7 @@ void thread_introduce(void) {
     log_put((struct record){ .event = EVENT_THREAD,
                              .object = (uint64_t)pthread_self(),
                              .detail = detail_of_priority(policy, param.sched_priority) });
-    if (is_asked) log_put_text(EVENT_NAME, (uint64_t)pthread_self(), name, NAME_BYTES - 1);
+    if (is_asked) put_name(pthread_self(), name);
     if (has_exit_key) pthread_setspecific(exit_key, &log_cursor);
     log_cursor.depth--;
     errno = error;
@@ -54,12 +59,13 @@ void thread_introduce(void) {
  * thread's chunk is the collector's then, so that short threads take no more than they wrote. */
 static void ends(void *unused) {
     (void)unused;
+    if (!log_header) return; /* a forked process that isn't recorded */
     if (++log_cursor.exits < PTHREAD_DESTRUCTOR_ITERATIONS) {
         pthread_setspecific(exit_key, &log_cursor);
         return;
     }
     log_put((struct record){ .event = EVENT_EXIT });
-    log_close_chunk();
+    log_leave_chunk();
 }
 
 void thread_make_key(void) {
@@ -97,7 +103,7 @@ EXPORT int pthread_create(pthread_t *thread, const pthread_attr_t *attributes,
 EXPORT int pthread_setname_np(pthread_t thread, const char *name) {
     bool is_told = is_recorded();
     int error = real.setname(thread, name);
-    if (error == 0 && is_told) log_put_text(EVENT_NAME, (uint64_t)thread, name, NAME_BYTES - 1);
+    if (error == 0 && is_told) put_name(thread, name);
     return error;
 }
 
@@ -117,9 +123,7 @@ EXPORT int prctl(int option, ...) {
     int result =
         (int)syscall(SYS_prctl, option, arguments[0], arguments[1], arguments[2], arguments[3]);
     int error = errno;
-    if (result == 0 && is_told)
-        log_put_text(EVENT_NAME, (uint64_t)pthread_self(), (const char *)arguments[0],
-                     NAME_BYTES - 1);
+    if (result == 0 && is_told) put_name(pthread_self(), (const char *)arguments[0]);
     errno = error;
     return result;
 }

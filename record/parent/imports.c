@@ -7,12 +7,15 @@
 #include <stdio.h>
 #include <string.h>
 
-/* By kind, each list ended by NULL. `syscall` may be a futex call, as of Rust's own mutexes, in a
+/* By kind, each list ended by NULL. The locks of OpenMP are futexes of its library, and what dlmopen
+ * loads has a C library of its own. `syscall` may be a futex call, as of Rust's own mutexes, in a
  * program that has threads. */
-enum { KINDS = 3, MOST = 6 };
+enum { KINDS = 5, MOST = 6 };
 static const char *const kinds[KINDS][MOST] = {
     { "pthread_spin_lock" },
     { "mtx_lock", "mtx_timedlock", "cnd_wait", "cnd_timedwait", "thrd_join" },
+    { "GOMP_critical_start", "GOMP_barrier", "omp_set_lock", "GOMP_parallel" },
+    { "dlmopen" },
     { "syscall" },
 };
 

@@ -1,6 +1,7 @@
 /* rounds pairs COUNT: for each line of standard input, a thread locks and unlocks a mutex COUNT
  * times, and prints how many page faults it had in that. rounds threads COUNT: for each line,
- * COUNT threads lock and unlock the mutex once, one by one. */
+ * COUNT threads lock and unlock the mutex once, one by one. rounds processes COUNT: so do COUNT
+ * processes. */
 #define _GNU_SOURCE
 #include "common.h"
 
@@ -46,14 +47,26 @@ static void *once(void *unused) {
     return unused;
 }
 
+static void in_process(void) {
+    int status;
+    pid_t child = fork();
+    if (child == 0) {
+        make_pairs(1);
+        _exit(0);
+    }
+    if (child < 0 || waitpid(child, &status, 0) != child || status) exit(1);
+}
+
 int main(int number, char **arguments) {
     if (number != 3 || (count = atol(arguments[2])) < 1) return 2;
     if (strcmp(arguments[1], "pairs") == 0) {
         join(start(in_rounds, NULL));
         return 0;
     }
+    bool are_processes = strcmp(arguments[1], "processes") == 0;
     while (reads_line()) {
-        for (long i = 0; i < count; i++) join(start(once, NULL));
+        for (long i = 0; i < count && are_processes; i++) in_process();
+        for (long i = 0; i < count && !are_processes; i++) join(start(once, NULL));
         puts("done");
         fflush(stdout);
     }

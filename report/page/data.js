@@ -160,6 +160,12 @@ class Lane {
   /** Returns the level of its own at a time. */
   levelAt(time) { return this.levels.findLast(it => it.time <= time).level }
 
+  /** Returns the highest level that it had while a bar lasted. */
+  highestIn({ begin, end, level }) {
+    const later = this.levels.filter(({ time }) => begin <= time && time < end)
+    return Math.max(level, ...later.map(it => it.level))
+  }
+
   /** Returns what it gets at a time: its level, unless it is boosted. */
   getsAt(time) {
     const boost = this.boosts.of[above(this.boosts.end, time)]

@@ -6,7 +6,8 @@ const TITLES = {
   deadlock: ({ lanes, who }) => `Deadlock of ${lanes.length > 1 ? `${lanes.length} threads` : who}`,
   late: it => `${it.who} held up by ${it.by}`,
   ran: it => `${it.who} ran at another level`,
-  stalled: it => `${it.who} waited for ${it.by}, which waited for something else`,
+  'gave-up': it => `${it.who} waited for ${it.what}, and gave up`,
+  stalled: it => `${it.who} waited for ${it.by}, which slept or waited for something else`,
   look: it => `${it.who} waited for ${it.what}`,
   orders: it => `${it.what} can deadlock`,
   bounded: it => `${it.who} waited for ${it.by}`,
@@ -30,8 +31,8 @@ export const longestOf = bar =>
 function titleOf(finding, bar, recording) {
   const late = longestOf(bar)
   if (finding.kind !== 'late' || !late) return TITLES[finding.kind](finding)
-  const runner = recording.lanes[late.runner]
-  return `${bar.lane.name} (${bar.level}) held up by ${runner.name} (${runner.getsAt(late.begin)})`
+  const runner = recording.lanes[late.runner], level = bar.lane.highestIn(bar)
+  return `${bar.lane.name} (${level}) held up by ${runner.name} (${runner.getsAt(late.begin)})`
 }
 
 /** Returns where the shown wait was, its callers, and where the mutex was taken or it was ended. */

@@ -214,8 +214,9 @@ class World:
         self.awaits, self.own = {}, {}      # by thread a mutex of another, of its own
         self.level = dict(log.first_level)  # by thread
         self.selves, self.tasks = {}, {}    # threads by process and pthread_t, by task
-        self.rows = {reader.THREAD: self.thread, reader.PRIORITY: self.priority,
-                     reader.CEILING: self.other_ceiling, reader.REQUEST: self.request,
+        self.creates, self.begun = {}, set()  # by process and pthread_t the CREATE of one to begin; CREATEs of others
+        self.rows = {reader.THREAD: self.thread, reader.CREATE: self.create, reader.PRIORITY: self.priority,
+                     reader.CEILING: self.changed_ceiling, reader.REQUEST: self.request,
                      reader.GRANTED: self.granted, reader.FAILED: self.failed,
                      reader.RELEASE: self.release}
 
@@ -230,7 +231,27 @@ class World:
     def thread(self, record):
         process, task, thread = record.chunk.process, record.chunk.task, record.chunk.thread
         self.selves[process, record.object] = self.tasks[task] = thread
-        return self.has_level(thread, level_of(record.detail, OTHER_LEVEL))
+        return self.has_level(thread, self.level_at_begin(record))
+
+    def create(self, record):
+        if record.number not in self.begun:
+            self.creates[record.chunk.process, record.object] = record
+        return []
+
+    def level_at_begin(self, record):
+        """Returns the level of a THREAD: if the recorder didn't ask for it, that of its CREATE."""
+        own = record.chunk.process, record.object
+        create = self.creates.pop(own, None)
+        if record.detail & POLICY != KEPT:
+            return level_of(record.detail, OTHER_LEVEL)
+        if create is None:
+            create = next((it for it in self.log.records if it.number > record.number and it.event == reader.CREATE
+                           and (it.chunk.process, it.object) == own), None)
+            self.begun.add(create and create.number)
+        if create is None:
+            return OTHER_LEVEL
+        is_creators = create.detail & POLICY == KEPT
+        return self.level[create.chunk.thread] if is_creators else level_of(create.detail, OTHER_LEVEL)
 
     def priority(self, record):
         if record.object:
@@ -260,6 +281,12 @@ class World:
             return []
         self.ceiling[mutex] = ceiling
         return [Fact(None, thread, CEILING, mutex, ceiling)]
+
+    def changed_ceiling(self, record):
+        """A thread has changed a ceiling. If it waited to do so, that is over."""
+        thread, mutex, _ = self.of(record)
+        facts = self.goes_on(thread) if self.awaits.get(thread) == mutex else []
+        return facts + self.other_ceiling(record)
 
     def goes_on(self, thread, but=None):
         """A thread that does something else doesn't wait any more."""

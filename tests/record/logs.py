@@ -96,6 +96,50 @@ def log_of(rows, chunks=2, times=None, tasks=None, processes=None, places=None, 
     return data
 
 
+# ---- version 4
+
+def heads_of(data):
+    """Returns where the chunks of a log of version 2 or later begin."""
+    return range(reader.HEADER_BYTES[2], len(data), CHUNK_BYTES)
+
+
+def used_of(data, at):
+    """Returns how many bytes of a chunk have records, with its head."""
+    return -(-len(bytes(data[at:at + CHUNK_BYTES]).rstrip(b"\0")) // 32) * 32
+
+
+def share(data, pairs):
+    """Moves the records of the second thread of each pair into the chunk of the first one, behind what is there."""
+    for into, moved in pairs:
+        at, its = (heads_of(data)[thread - 1] for thread in (into, moved))
+        there, length = used_of(data, at), used_of(data, its)
+        if there and there + length <= CHUNK_BYTES:
+            data[at + there:at + there + length] = data[its:its + length]
+            data[its:its + length] = bytes(length)
+    struct.pack_into("<I", data, 8, 4)
+
+
+def number_by_time(data):
+    """Gives each record its time as its number, or that of the one before and one more if that isn't less."""
+    first, = struct.unpack_from("<Q", data, 216)
+    before, highest, lost = 0, 0, []
+    for at in (at for begin in heads_of(data) for at in range(begin, begin + CHUNK_BYTES, 32)):
+        number, time = struct.unpack_from("<QQ", data, at)
+        is_head = data[at:at + 8] == reader.CHUNK_MARK
+        if is_head or not number:
+            before = 0 if is_head else before
+            continue
+        before = max(before + 1, 0 if data[at + reader.EVENT_AT] == reader.TEXT else time)
+        highest = max(highest, before)
+        lost += [before] if first and number >= first else []
+        struct.pack_into("<Q", data, at, before)
+    contents, = struct.unpack_from("<I", data, 68)
+    struct.pack_into("<I", data, 8, 4)
+    struct.pack_into("<I", data, 68, contents | reader.HAS_TIMES)
+    struct.pack_into("<Q", data, 128, highest + 2)
+    struct.pack_into("<Q", data, 216, min(lost, default=highest + 1) if first else 0)
+
+
 # ---- a text
 
 EVENTS = {name.upper().replace("-", "_"): event for event, name in reader.NAMES.items()}
@@ -120,6 +164,8 @@ def row_of(words):
             how = int(next(rest))
         elif word == "at":
             target |= int(next(rest)) << 48
+        elif word == "pages":
+            how, detail = divmod(int(next(rest)), 1 << 16)
         elif word == "text":
             text = next(rest).encode()
             value = len(text)
@@ -141,6 +187,7 @@ def row_of(words):
 def read_text(text):
     """Returns the log of a text."""
     rows, times, fields, tasks, places, changes, behind = [], [], {}, {}, {}, [], 0
+    shares, has_times = [], False
     for line in text.splitlines():
         words = line.split("#")[0].split()
         if not words:
@@ -155,6 +202,10 @@ def read_text(text):
             changes.append(words[1:])
         elif words[0] == "behind":
             behind = int(words[1])
+        elif words[0] == "shares":
+            shares.append((int(words[1]), int(words[2])))
+        elif words[0] == "times":
+            has_times = True
         else:
             time = int(words.pop(0)[1:]) if words[0].startswith("@") else (len(rows) + 1) * 1_000_000
             row, text_of_row = row_of(words)
@@ -166,6 +217,10 @@ def read_text(text):
     if places:
         fields["places"] = [places.get(number, 0) for number in range(1, max(places) + 1)]
     data = log_of(rows, threads, times, tasks, **{"process": 700, "began": 0, **fields})
+    if shares:
+        share(data, shares)
+    if has_times:
+        number_by_time(data)
     for words in changes:
         change(data, *words)
     return data + b"\xff" * behind

@@ -62,7 +62,8 @@ class Names:
             elif record.event == reader.NAME:
                 self.threads[selves.get((process, record.object))] = visible(record.text[:NAME_BYTES])
             elif record.event == reader.MODULE:
-                self.modules.append((record.object, process, record.text.rsplit(b"/", 1)[-1]))
+                self.modules.append((record.object, process, record.text.rsplit(b"/", 1)[-1],
+                                     reader.bytes_of(record) or MODULE_BYTES))
             elif record.event == reader.CHILD and record.value in process_of:
                 self.parents.setdefault(process, process_of[record.value])
 
@@ -84,8 +85,8 @@ class Names:
         while len(processes) <= MOST_PARENTS and processes[-1] in self.parents:
             processes.append(self.parents[processes[-1]])
         there = [one for one in self.modules if process is None or one[1] in processes]
-        near = [one for one in there if 0 <= address - one[0] < MODULE_BYTES]
-        return max(near, key=lambda one: one[0], default=None)
+        nearest = max((one for one in there if one[0] <= address), key=lambda one: one[0], default=None)
+        return nearest if nearest and address - nearest[0] < nearest[3] else None
 
     def file_at(self, process, address):
         module = self.module(process, address)
@@ -603,8 +604,7 @@ class Writer:
         for thread in sorted(self.log.identity):
             self.catch_up(thread)
         if self.whole.head.first_lost:
-            missing = self.whole.head.next_number - self.whole.head.first_lost
-            self.lines.append(f"{self.now} lost {min(missing, MOST_TIME)}")
+            self.lines.append(f"{self.now} lost {min(self.whole.missing, MOST_TIME)}")
         return [*self.lines, f"{self.now} end"]
 
 

@@ -23,6 +23,7 @@ class Joined:
             used += max((number for number, address in enumerate(log.places, 1) if address), default=0)
         self.unplaced = 0
         self.records = [self.renumbered(number, *one) for number, one in enumerate(self.in_order(), 1)]
+        self.missing = sum(log.missing for log in logs)
         self.head = self.sum_of([log.head for log in logs])
 
     def in_order(self):
@@ -70,13 +71,12 @@ class Joined:
         return self.logs[part].place_of(record._replace(place=number))
 
     def sum_of(self, heads):
-        missing = sum(head.next_number - head.first_lost for head in heads if head.first_lost)
         known = heads[0].known
         for head in heads:
             known &= head.known
         sums = {name: sum(getattr(head, name) for head in heads) for name in ("left_out", "dropped", "unplaced")}
         sums["unplaced"] += self.unplaced
-        return heads[0]._replace(known=known, first_lost=min(missing, 1), next_number=missing + 1, **sums)
+        return heads[0]._replace(known=known, first_lost=min(self.missing, 1), **sums)
 
 
 def are_alike(head, first):

@@ -1,7 +1,9 @@
 """Logs of random programs, some of them damaged. The same seed gives the same log. Those of odd
-seeds have places, in version 2."""
+seeds have places: of seeds 1, 5, 9 .. in version 2, of 3, 7, 11 .. in version 4."""
+import random
+
 from tests.record.random_program import FIRST_TASK, PROCESS, Program
-from tests.record.logs import log_of, reader
+from tests.record.logs import log_of, number_by_time, reader, share
 
 ALL_KNOWN, KINDS, OWNERS = 7, 1, 4  # what the recorder may know of mutexes
 VALUE, DETAIL = 3, 4        # the fields of a row that damages change
@@ -91,5 +93,10 @@ class RandomLog:
             header.update(places=PLACES)
         tasks = {thread.number: thread.task for thread in self.threads}
         processes = {thread.number: thread.process for thread in self.threads}
-        return bytes(log_of(rows, len(self.threads), times, tasks, processes, process=PROCESS,
-                            **header))
+        data = log_of(rows, len(self.threads), times, tasks, processes, process=PROCESS, **header)
+        if self.seed % 4 == 3:
+            choose, count = random.Random(self.seed), len(self.threads)
+            share(data, [(choose.randrange(1, thread), thread) for thread in range(2, count + 1) if choose.random() < 0.5])
+        if self.seed % 8 == 3:
+            number_by_time(data)
+        return bytes(data)

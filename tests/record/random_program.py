@@ -12,7 +12,7 @@ from tests.record.logs import reader
 
 NONE, INHERIT, PROTECT = 0x04, 0x24, 0x44
 NORMAL, RECURSIVE, ERRORCHECK = 0, 1, 2
-LOCK, TRYLOCK, TIMEDLOCK, CONDITION = 0, 1, 2, 4
+LOCK, TRYLOCK, TIMEDLOCK, CONDITION, CEILING = 0, 1, 2, 4, 5
 NOT_PERMITTED, BUSY, INVALID, DEADLOCK, TIMED_OUT = 1, 16, 22, 35, 110
 OTHER, FIFO, DEADLINE, KEPT = 0, 1, 6, 15
 DEADLINE_LEVEL = 100
@@ -125,7 +125,8 @@ class Program:
         time = self.now if time is None else time
         if not thread.has_begun:
             thread.has_begun = True
-            self.put(thread, reader.THREAD, thread.self, detail=priority(thread.level), time=time)
+            detail = KEPT if self.chance(0.05) else priority(thread.level)
+            self.put(thread, reader.THREAD, thread.self, detail=detail, time=time)
         self.records.append(((thread.number, event, target, value, detail, how), time))
 
     def put_call(self, event, thread, mutex, call, value=0, time=None):
@@ -299,9 +300,13 @@ class Program:
         self.put(thread, reader.PRIORITY, target, value, detail)
 
     def set_ceiling(self, thread, mutex):
-        if mutex.protocol != PROTECT or mutex.owner:
+        if mutex.protocol != PROTECT or mutex.owner is thread:
             return
         mutex.calls += 1
+        if mutex.owner and self.names_owners:
+            self.put_call(reader.REQUEST, thread, mutex, CEILING, mutex.word)
+        while mutex.owner:
+            yield
         mutex.ceiling = self.choose.choice((20, 50, 90))
         detail = mutex.detail() & ~reader.TYPE
         yield from self.late()
@@ -310,7 +315,7 @@ class Program:
 
     def load(self, thread, _mutex):
         """A file is loaded near the mutexes. Its name is empty."""
-        self.put(thread, reader.MODULE, self.choose.choice((0x4f00, 0x5010)))
+        self.put(thread, reader.MODULE, self.choose.choice((0x4f00, 0x5010)), detail=self.choose.choice((0, 1)))
         yield
 
     def fork(self, thread, _mutex):

@@ -65,8 +65,8 @@ def number_in(path, at):
         return int.from_bytes(file.read(256)[at:at + 8], "little")
 
 
-def next_number(path):
-    return number_in(path, 128)
+def records_in(path):
+    return number_in(path, 80)
 
 
 def memory_of(process):
@@ -115,6 +115,16 @@ def counted(log, event):
 # ---- the memory
 
 
+CLOCK = """#define _GNU_SOURCE
+#include <sys/syscall.h>
+#include <time.h>
+#include <unistd.h>
+int clock_gettime(clockid_t clock, struct timespec *now) {
+    int result = (int)syscall(SYS_clock_gettime, clock, now);
+    now->tv_nsec -= now->tv_nsec % 1000000;
+    return result;
+}
+"""
 LOCKS_MEMORY = """\
 #include <pthread.h>
 #include <stdio.h>
@@ -210,7 +220,7 @@ class Collector(Case):
         for number in range(times):
             faults.append(running.says("go"))
             wanted = 2 * pairs * (number + 1)
-            until(lambda: next_number(running.path) > wanted)
+            until(lambda: records_in(running.path) > wanted)
             if number == 0:
                 program, = [it for it in children_of(running.child.pid) if proc_text(it, "comm") == "rounds\n"]
         held, locked = memory_of(program), locked_by(running.helper("pim-collector"))
@@ -224,7 +234,7 @@ class Collector(Case):
         self.equal("its status, and that nothing is said", (status, said), (0, ""))
         log = read(running.path)
         self.check("a log whose slots were used again is whole", broken(log))
-        got = counted(log, reader.GRANTED), log.head.lost, log.raw[-1].number
+        got = counted(log, reader.GRANTED), log.head.lost, log.head.records
         self.equal("it has each call", got, (1 + pairs * times, 0, len(log.raw)))
 
     def test_a_flood_of_records_loses_none(self):
@@ -249,23 +259,54 @@ class Collector(Case):
         got = counted(log, reader.GRANTED), log.head.lost
         self.check("its log has each call", broken(log) or difference(got, (1 + pairs * (1 + times), 0)))
 
-    def test_a_short_thread_takes_a_block_of_the_disk(self):
-        """A short thread takes a block of the disk, and no room of more."""
-        running = Running(self.folder, PROGRAMS / "rounds", "threads", "100", options=["--size", "4"])
+    def test_short_threads_share_chunks(self):
+        """Threads that begin after others have ended use their chunks."""
+        running = Running(self.folder, PROGRAMS / "rounds", "threads", "1000", options=["--size", "4"])
+        running.says("go")
+        status = running.end()[0]
+        log, taken = read(running.path), number_in(running.path, 192)
+        self.check("1,000 short threads have their records", broken(log) or difference(
+            (status, counted(log, reader.THREAD), counted(log, reader.EXIT), log.head.lost), (0, 1001, 1000, 0)))
+        shared = len(log.chunks) - taken
+        self.check("they take chunks for their records, and not one each", None if taken < 60 and shared > 940 else f"{taken} chunks")
+        told = subprocess.run([RECORD / "out/pim-facts", running.path], capture_output=True, text=True, check=False)
+        names = [line for line in told.stdout.splitlines() if re.fullmatch(r"thread \d+ 0 rounds", line)]
+        self.check("pim-facts finds each of them", difference((told.returncode, len(names)), (0, 1001)))
+
+    def test_a_coarse_clock(self):
+        """Where two threads may see the same time, the records are counted."""
+        source, library = pathlib.Path(self.folder, "clock.c"), pathlib.Path(self.folder, "clock.so")
+        source.write_text(CLOCK)
+        run("cc", "-shared", "-fPIC", source, "-o", library)
+        for options in ([], ["--last", "4M", "--contended"]):
+            own = pathlib.Path(self.folder, f"run{len(options)}")
+            own.mkdir()
+            random = (PROGRAMS / "random", "1", "300", "ordinary")
+            done = run(RECORD / "pim-record", "-o", own / "run", *options, *random, env={**os.environ, "LD_PRELOAD": str(library)})
+            log = read(own / "run")
+            self.check(f"a coarse clock {' '.join(options)}", broken(log) or difference(
+                (done.returncode, log.head.has_times, counted(log, reader.EXIT)), (0, False, 8)))
+        done = run(RECORD / "pim-record", "-o", f"{self.folder}/fine", *random)
+        log = read(f"{self.folder}/fine")
+        self.check("with a fine clock the numbers are times", broken(log) or difference((done.returncode, log.head.has_times), (0, True)))
+
+    def test_a_short_process_takes_a_block_of_the_disk(self):
+        """A short process takes a block of the disk, and no room of more."""
+        running = Running(self.folder, PROGRAMS / "rounds", "processes", "100", options=["--size", "4"])
         for number in range(6):
-            # What a chunk of an ended thread doesn't take is room once the collector has seen the end.
+            # What a chunk of an ended process doesn't take is room once the collector has seen the end.
             until(lambda: running.path.exists() and number_in(running.path, 32) - number_in(running.path, 192) >= 100)
             running.says("go")
-            until(lambda: number_in(running.path, 192) > 100 * (number + 1))  # a chunk of each thread
+            until(lambda: number_in(running.path, 192) > 100 * (number + 1))  # a chunk of each
         status = running.end()[0]
         log, data = read(running.path), running.path.stat()
         taken = number_in(running.path, 192)
-        self.check("600 short threads in a log that has room for 251 chunks", broken(log) or difference(
-            (status, counted(log, reader.EXIT), log.head.lost, taken >= 601), (0, 600, 0, True)))
+        self.check("600 short processes in a log that has room for 251 chunks", broken(log) or difference(
+            (status, counted(log, reader.CHILD), log.head.lost, taken >= 601), (0, 600, 0, True)))
         wanted = HEADER_BYTES + taken * 4096 + MEGABYTE // 4
         self.check("each takes a block of the disk", None if data.st_blocks * 512 <= wanted else f"{data.st_blocks} blocks")
         self.check("the file is as long as the chunks that were taken",
-                   difference((data.st_size, log.head.chunks > 251), (HEADER_BYTES + taken * CHUNK_BYTES, True)))
+              difference((data.st_size, log.head.chunks > 251), (HEADER_BYTES + taken * CHUNK_BYTES, True)))
 
     def test_a_program_that_locks_its_memory(self):
         """A program that locks its memory locks as much of the recorder's as is mapped at a time."""

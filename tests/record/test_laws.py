@@ -165,7 +165,7 @@ class Laws(Case):
             self.told(f"event {event} has no policy 4", (1, event, 1, 0, 4, 0),
                       "there is no policy 4")
         for event in (REQUEST, GRANTED, RELEASE):
-            for how in (5, 5 | OWNER_DIED):
+            for how in (6, 6 | OWNER_DIED):
                 self.told(f"event {event} has no call {how}", (1, event, MUTEX, 0, INHERIT, how),
                           f"there is no call {how}")
         for event, kinds in ((WAITS, (0, 6, 7)), (WAITED, (0, 6, 0x101)), (GIVE, (0, 3, 4, 5, 7))):

@@ -139,7 +139,7 @@ class Others(Case):
                     said[-2:] = sorted(said[-2:])
                 log = read(path)
                 self.check(f"waits and what ends them: {case}{name}", broken(log) or difference(
-                    (log.head.version, log.head.unplaced, *said), (3, 0, *wanted)))
+                    (log.head.version, log.head.unplaced, *said), (4, 0, *wanted)))
         self.storm(program, path)
 
     def storm(self, program, path):

@@ -288,6 +288,15 @@ def compiled(folder, name, text, *options, compiler="cc"):
     return program if shutil.which(compiler) and not run(*words).returncode else None
 
 
+def end_in_memory(program):
+    """Returns how many bytes a program takes from its load address on, in pages of 4096."""
+    data = pathlib.Path(program).read_bytes()
+    *_, place, size, count = places_text.ELF.unpack_from(data)
+    parts = [places_text.PART.unpack_from(data, place + size * at) for at in range(count)]
+    ends = [begin + length for kind, _, _, begin, _, _, length, _ in parts if kind == places_text.LOADED]
+    return -(-max(ends) // 4096) * 4096
+
+
 def recorded(folder, *command, options=(), **how):
     """Returns a finished recording, and its log's path."""
     path = pathlib.Path(folder, "run")
@@ -657,6 +666,8 @@ class Places(Case):
         begin, = [r.object for r in log.records if r.event == reader.MODULE and r.text.endswith(b"/plan")]
         wanted = {n: (place, f"plan+{place - 1 - begin:#x}") for n, place in enumerate(log.places, 1) if place}
         self.check("the places of a program without debug information", difference([texts_of(path)], [wanted]))
+        ends = {r.object: reader.bytes_of(r) for r in log.records if r.event == reader.MODULE}
+        self.equal("the log has the end of each file in memory", (ends[begin],), (end_in_memory(program),))
 
     @HAS_LINES
     def test_a_file_of_places_is_replaced_with_its_log(self):

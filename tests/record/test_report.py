@@ -400,6 +400,6 @@ class Reports(Case):
         done = run(REPORT, "--findings", ROWS, "--json", "--facts", "-", input=text)
         found = json.loads(done.stdout)["findings"] if done.stdout else []
         got = [(one["kind"], one["what"], one["who"][0]["level"], one["worst"]) for one in found]
-        wanted = [("bounded", "map_lock", 30, 3 * MILLISECOND),
-                  ("bounded", "map_lock", 20, MILLISECOND)]
+        wanted = [("gave-up", "map_lock", 20, MILLISECOND),
+                  ("bounded", "map_lock", 30, 3 * MILLISECOND)]
         self.equal("the report of the example", (done.returncode, got), (0, wanted))

@@ -332,7 +332,7 @@ class ToFacts(Case):
         """Random logs of programs that one started: those of odd seeds are of one version, and can be joined."""
         differ = {}
         for seed in range(FIRST_SEED, FIRST_SEED + LOGS, 2):
-            logs = [bytes(RandomLog(seed + more).data()) for more in (0, *random.Random(seed).sample(range(2, 99, 2), 2))]
+            logs = [bytes(RandomLog(seed + more).data()) for more in (0, *random.Random(seed).sample(range(4, 199, 4), 2))]
             texts = [f"{number} 0x401000 first.c:{number}\n- 0x5000 lock{number}\n".encode() for number in (1, 2, 3)]
             kernel = kernel_of(seed) if seed % 8 == 1 else None
             why = self.converter.why(logs[0], texts[0], kernel, [*zip(logs[1:], texts[1:])])
@@ -391,6 +391,14 @@ class ToFacts(Case):
             self.check(f"pim-facts writes no LOG{ending}", difference(
                 (done.returncode, done.stdout, done.stderr, pathlib.Path(f"{log}{ending}").read_bytes()),
                 (2, b"", wanted, read)))
+        other, whole = pathlib.Path(f"{log}.17"), (ROOT / "suite/recordings/several_threads_share_a_chunk.log.txt").read_text()
+        self.converter.run(bytes(read_text(whole)))
+        other.write_bytes(read_text(whole))
+        done = run("-o", other, log)
+        wanted = 2, f"pim-facts: {other}: it is read, and so isn't written\n".encode(), bytes(read_text(whole))
+        self.equal("pim-facts writes no log of a program that LOG's started",
+                   (done.returncode, done.stderr, other.read_bytes()), wanted)
+        other.unlink()
         self.converter.run(data)
         pipe = pathlib.Path(f"{log}.kernel")
         os.mkfifo(pipe)

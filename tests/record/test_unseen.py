@@ -14,11 +14,14 @@ CALLS = {
     "pthread_rwlock_wrlock": "pthread_rwlock_wrlock(&other)",
     "pthread_barrier_wait": "pthread_barrier_wait(&barrier)", "pthread_spin_lock": "pthread_spin_lock(&spin)",
     "mtx_lock": "mtx_lock(&mutex)", "mtx_timedlock": "mtx_timedlock(&timed, &soon)", "syscall": "syscall(SYS_getpid)",
+    "dlmopen": "dlmopen(LM_ID_NEWLM, NULL, RTLD_NOW)", "GOMP_critical_start": "(void)({\n#pragma omp critical\nown_number++; 0; })",
+    "GOMP_parallel": "(void)({\n#pragma omp parallel\nown_number = 1; 0; })",
     "thrd_join": "thrd_create(&other_thread, run, NULL), thrd_join(other_thread, NULL)",
     "pthread_create": "pthread_create(&thread, NULL, begin, NULL), pthread_join(thread, NULL)",
 }
 PROGRAM = """
 #define _GNU_SOURCE
+#include <dlfcn.h>
 #include <pthread.h>
 #include <semaphore.h>
 #include <sys/syscall.h>
@@ -33,6 +36,7 @@ pthread_mutex_t own = PTHREAD_MUTEX_INITIALIZER;
 mtx_t mutex, timed;
 struct timespec soon;
 pthread_t thread;
+int own_number;
 thrd_t other_thread;
 void *begin(void *unused) { return unused; }
 int run(void *unused) { return unused != NULL; }
@@ -51,7 +55,8 @@ def built(folder, *names):
     """Returns the path of a program that calls these functions, once each."""
     path = pathlib.Path(folder, "_".join(names) or "none")
     text = PROGRAM.replace("CALLS", ", ".join(CALLS[name] for name in names) or "(void)0")
-    words = ["cc", "-O0", "-x", "c", "-", "-o", path, "-pthread"]
+    openmp = ["-fopenmp"] if any(name.startswith("GOMP") for name in names) else []
+    words = ["cc", "-O0", *openmp, "-x", "c", "-", "-o", path, "-pthread"]
     subprocess.run(words, input=text.encode(), check=True, capture_output=True)
     return path
 
@@ -83,6 +88,9 @@ class Unseen(Case):
             ("sem_timedwait", "syscall", "pthread_create"): "syscall",
             ("syscall",): "",
             ("thrd_join",): "thrd_join",
+            ("dlmopen",): "dlmopen",
+            ("GOMP_parallel",): "GOMP_parallel",
+            ("GOMP_critical_start", "GOMP_parallel"): "GOMP_critical_start",
             ("mtx_timedlock", "mtx_lock", "thrd_join", "pthread_spin_lock"): "pthread_spin_lock and mtx_lock",
             ("syscall", "pthread_create", "pthread_spin_lock", "mtx_timedlock", "pthread_barrier_wait"):
                 "pthread_spin_lock, mtx_timedlock and syscall",

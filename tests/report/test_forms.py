@@ -10,6 +10,7 @@ from collections import Counter, defaultdict
 from tests.cases import Case
 from tests.report.texts import SUITE, all_findings, found_in, large, random_findings, said
 from tests.shared.checks import ROOT
+from asleep import Sleeps
 from bounds import Bounds
 from facts_text import Facts
 from findings import Findings
@@ -44,8 +45,10 @@ mutex 2 inherit b
 50 end
 """
 HOSTILE = b"facts 1\nthread 1 9 <!--<script>\nmutex 1 none </script>\n0 1 granted 1 <img>\n"
+READ = ("waits", "blocks", "granted", "took", "gave-up", "released", "resumes", "on", "off",
+        "lost")
 TIME = r"([\d.,]+ (?:s|ms|us|ns))"
-PAGE = (ROOT / "docs/JSON.md").read_text()
+PAGE = (ROOT / "docs/COMMANDS.md").read_text()
 
 
 def keys_in(value):
@@ -61,7 +64,7 @@ def keys_in(value):
 
 def documented():
     """Returns the keys that the tables of the page have."""
-    part = PAGE.partition("\n## The keys\n")[2].partition("\n## ")[0]
+    part = PAGE.partition("\n## The JSON of a report\n")[2].partition("\n## ")[0]
     cells = re.findall(r"(?m)^\| (`.*?) \| (.*) \|$", part)
     listed = {key for cell, _ in cells for key in re.findall(r"`(\w+)`", cell)}
     inner = {key for _, text in cells for key in re.findall(r"`(\w+)`", text)}
@@ -270,6 +273,93 @@ def times_of(changes, first, ended):
     return +found
 
 
+def sleeps_wanted(text, ended):
+    """Returns by thread for how long it was asleep, by what each line says of it."""
+    lines = [line for line in map(line_of, lines_of(text)[1:]) if line.what in READ]
+    found, world = Counter(), World()
+    clocks = [max(line.time for line in lines[:at + 1]) for at in range(len(lines))]
+    for at, line in enumerate(lines):
+        if line.what == "off" and not line.ready and not {line.thread} & {
+                *world.awaits, *world.blocked}:
+            later = ((one, clock) for one, clock in zip(lines[at + 1:], clocks[at + 1:])
+                     if one.what == "lost" or one.thread == line.thread)
+            one, clock = next(later, (None, ended))
+            if one is None or one.what == "on" or (one.what == "off" and one.ready):
+                found[line.thread] += clock - clocks[at]
+        if line.what in ("waits", "granted", "gave-up"):
+            world.awaits.pop(line.thread, None)
+        if line.what in ("blocks", "resumes"):
+            world.blocked.pop(line.thread, None)
+        if line.what in ("waits", "blocks"):
+            (world.awaits if line.what == "waits" else world.blocked)[line.thread] = True
+    return +found
+
+
+def table_wanted(text, listed):
+    """Returns by mutex locks, those that waited, how long it was owned, and its waits."""
+    locks, owned, world = Counter(), Counter(), World()
+    granted, waits = Counter(), defaultdict(list)
+    for line in map(line_of, lines_of(text)[1:]):
+        stretch = world.time_passes(line)
+        owned.update({mutex: stretch for mutex in world.owner})
+        locks[line.mutex] += line.what in ("granted", "took") and line.mutex not in world.owner
+        world.apply(line)
+    for wait in listed.waits:
+        granted[wait.mutex] += text.split(b"\n")[wait.until - 1].split()[2:3] == [b"granted"]
+        waits[wait.mutex].append(wait.lasted)
+    return {mutex: (locks[mutex], granted[mutex], owned[mutex], sorted(waits[mutex]))
+            for mutex in world.mutexes if locks[mutex] or waits[mutex]}
+
+
+def ring(count):
+    """Returns facts of threads of which each owns a mutex, and waits for that of the next one."""
+    facts = ["facts 1", *(f"thread {t} {t % 90} t{t}" for t in range(1, count + 1)),
+             *(f"mutex {m} none m{m}" for m in range(1, count + 1)),
+             *(f"0 {t} granted {t}" for t in range(1, count + 1))]
+    first, rows = len(facts) + 1, []
+    for t in range(1, count + 1):
+        following = t % count + 1
+        facts.append(f"1 {t} waits {following}")
+        rows.append(f"wait {first + t - 1} 0 {t} {following} 1 {count - 1} {t % 90} {t % 90}"
+                    f" {following} {following % 90} {first - count + following - 1} 0 0 0")
+    facts.append(f"{count} end")
+    rows += [f"section {t} {t} {t % 90} 1 {count} {first - count + t - 1} {count}"
+             for t in range(1, count + 1)]
+    rows += [f"nests {t} {t} {t % count + 1} 1 {first - count + t - 1} {first + t - 1}"
+             for t in range(1, count + 1)]
+    rows.append(f"deadlock {' '.join(map(str, range(1, count + 1)))}")
+    rows.append(f"end {len(facts)} {count} {count} 0 1")
+    return "\n".join(facts).encode(), "\n".join(rows)
+
+
+def in_vain(count):
+    """Returns facts of threads that wait for one mutex in vain, with names that differ."""
+    facts = ["facts 1", *(f"thread {t} {t % 90} t{t}" for t in range(1, count + 1)),
+             "mutex 1 none m", "0 1 granted 1"]
+    first, rows = len(facts) + 1, []
+    for t in range(2, count + 1):
+        inverted = (2 * count - t) * (t % 90 > 1)
+        facts.append(f"{t} {t} waits 1 pool.c:{t % 700}")
+        rows.append(f"wait {first + t - 2} 0 {t} 1 {t} {2 * count - t} {t % 90} {t % 90} 1 1"
+                    f" {first - 1} {inverted} {inverted} 0")
+        rows += [f"inverted {first + t - 2} 1 1 1 {inverted}"] * (inverted > 0)
+    facts.append(f"{2 * count} end")
+    rows += [f"section 1 1 1 1 {2 * count} {first - 1} {2 * count}"]
+    rows.append(f"end {len(facts)} {2 * count} {count - 1} {count - 1 - count // 45} 0")
+    return "\n".join(facts).encode(), "\n".join(rows)
+
+
+def is_counted(use, wanted):
+    """Returns whether a row of the table of mutexes is what a plain count gives."""
+    locks, granted, owned, waits = wanted
+    last = max([at for at in range(len(waits)) if 100 * at < 99 * len(waits)], default=0)
+    sums = [sum(it[key] for it in use["callers"]) for key in ("waits", "total")]
+    return (use["locks"], use["contended"], use["waits"], use["total"], use["p99"]) == (
+        locks, granted, len(waits), sum(waits), (waits or [0])[last]) and (
+        sums == [use["waits"], use["total"]]
+        and abs(use["mean"] * max(1, locks) - owned) < max(1, locks))
+
+
 def plain_bound(value, thread):
     """Returns the bounds of a thread as docs/FINDINGS.md defines them, with *used* of sections."""
     number, level, used = thread["number"], thread["highest"], Counter()
@@ -331,7 +421,7 @@ def windowed():
 class Forms(Case):
     def test_each_key_of_the_JSON_is_on_the_page(self):
         """Each key of the JSON is on the page, and each key of a table there is in some JSON."""
-        used = {key for one in all_findings() for key in keys_in(json.loads(json_of(one)))}
+        used = {key for one in all_findings() for key in keys_in(json.loads(json_of(one, True)))}
         listed, named = documented()
         self.check("each key is on the page", ", ".join(sorted(used - named)))
         self.check("each key of the page is there", ", ".join(sorted(listed - used)))
@@ -412,6 +502,40 @@ class Forms(Case):
                 wrong += [] if got == +gets[thread] else [f"{seed}: what {thread} gets"]
                 wrong += [] if time == on[thread] else [f"{seed}: when {thread} is on a CPU"]
         self.check("what threads get, and when they have a CPU", ", ".join(wrong[:5]))
+
+    def test_who_slept(self):
+        """By a plain reading threads were asleep for as long. Time passes by the lines read."""
+        wrong, many = [], 0
+        for seed, (text, one, _) in enumerate(random_findings()):
+            known = Sleeps(one.facts, one.rows.ended)
+            got = Counter({thread: known.between(thread, 0, one.rows.ended) for thread in known.of})
+            many += len(got)
+            wrong += [] if got == sleeps_wanted(text, one.rows.ended) else [str(seed)]
+        self.check("who slept", ", ".join(wrong[:5]) or (None if many > 15 else f"{many} slept"))
+
+    def test_the_table_of_all_mutexes(self):
+        """The table is what a plain count gives, in the text as in the JSON."""
+        wrong, facts = [], large(200)[0]
+        for seed, (text, one, out) in enumerate([*random_findings(), (facts, *found_in(facts))]):
+            wanted = table_wanted(text, Rows.read(out))
+            table = json.loads(json_of(one, True))["mutex_table"]
+            same = all(is_counted(use, wanted.pop(use["mutex"], (0, 0, 0, []))) for use in table)
+            is_sorted = table == sorted(table, key=lambda use: -use["total"])
+            said = Terminal(one, has_table=True).text().partition("\nALL MUTEXES")[2]
+            lines = re.findall(r"(?m)^ *([\d,]+) +([\d.]+) % +\S+ \S+ +\S+ \S+", said)
+            shown = [(f"{use['locks']:,}", f"{100 * use['contended'] / max(1, use['locks']):.1f}")
+                     for use in table]
+            wrong += [] if same and is_sorted and shown == lines and not wanted else [str(seed)]
+        self.check("the table of all mutexes", ", ".join(wrong[:5]))
+
+    def test_many_threads(self):
+        """What 1,000 threads do at one lock, or in one deadlock, is said in a screen or two."""
+        for name, (facts, rows) in (("a deadlock", ring(1000)), ("one lock", in_vain(1000))):
+            begin = time.process_time()
+            text = Terminal(Findings(Recording(Facts(facts), Rows.read(rows)))).text()
+            took, lines = time.process_time() - begin, text.count("\n")
+            is_short = lines < 100 and took < 3  # 0.1 s
+            self.check(f"1,000 threads at {name}", None if is_short else f"{lines} lines, {took:.2f} s")
 
     def test_bounds_are_those_of_the_definitions(self):
         """The bounds are those of the definitions, for real-time threads that can be blocked."""

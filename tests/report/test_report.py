@@ -22,6 +22,7 @@ from command import arguments
 from facts_text import Facts
 from findings import Findings
 from html_page import page_of
+from json_report import json_of
 from perfetto import Tracks
 from recording import Recording
 from rows_text import Rows
@@ -61,6 +62,14 @@ def script(file, text):
     file.chmod(0o755)
 
 
+def is_given_up(wait, text, listed):
+    """Returns whether a wait ends by a `gave-up`, and doesn't begin again at that time."""
+    words = text.split(b"\n")[wait.until - 1].split(b" ") if wait.until else []
+    return words[2:3] == [b"gave-up"] and not any(
+        (one.thread, one.mutex, one.begin) == (wait.thread, wait.mutex, wait.end)
+        for one in listed.waits[listed.waits.index(wait):] if one.line > wait.until)
+
+
 class Report(Case):
     def test_reports_of_the_suite(self):
         for file in sorted(SUITE.glob("*.facts")):
@@ -96,14 +105,46 @@ class Report(Case):
         _, every, _ = said("--facts", pool, "--all")
         self.equal("--all", (every,), (pool.with_suffix(".txt").read_text(),))
         status, help_text, _ = said("--help", findings=None)
-        shown = sorted(set(re.findall(r"--[a-z]+", help_text)))
-        taken = sorted({"--help", "--version", *(f"--{one}" for one in vars(arguments(["x"]))
-                                                 if one != "recording")})
+        shown = sorted(set(re.findall(r"--[a-z-]+", help_text)))
+        options = [f"--{one}".replace("_", "-") for one in vars(arguments(["x"])) if one != "recording"]
+        taken = sorted({"--help", "--version", *options})
         self.equal("--help", (status, shown), (0, taken))
         self.check("--help names the tolerance", None if "50 us" in help_text else "it doesn't")
         version = (ROOT / "VERSION").read_text().strip()
         self.check("--version", difference(said("--version", findings=None),
                                            (0, f"pim-report {version}\n", "")))
+
+    def test_all_mutexes(self):
+        found = found_in(CHAIN.read_bytes())[0]
+        for words, wanted in (([], Terminal(found, has_table=True).text()),
+                              (["--json"], json_of(found, True))):
+            _, text, _ = said("--facts", CHAIN, "--all-mutexes", *words)
+            self.equal(" ".join(["--all-mutexes", *words]), (text,), (wanted,))
+
+    def test_when_a_recording_began(self):
+        log = pathlib.Path(self.folder, "run")
+        began = (1_700_000_000_123_456_789).to_bytes(8, sys.byteorder)
+        log.write_bytes(b"pimlog" + bytes(50) + began)
+        words, env = [log, "--converter", f"sh -c 'cat {CHAIN}'"], {**os.environ, "TZ": "UTC0"}
+        _, text, _ = said(*words, env=env)
+        is_said = " from 2023-11-14 22:13:20.123 +0000 on, " in " ".join(text.split())
+        _, text, _ = said(*words, "--json", env=env)
+        is_known = '"began": 1700000000123456789,' in text
+        self.check("when it began", None if is_said and is_known else "it isn't said")
+
+    def test_what_is_read_is_not_written(self):
+        """The logs of programs that the recorded one started are read, too."""
+        files = [pathlib.Path(self.folder, f"run{end}") for end in (
+            "", ".kernel", ".places", ".17", ".17.2", ".17.places", ".17.2.places")]
+        for option, file in zip(("--html", "--perfetto", "--trace") * 3, files):
+            file.write_text("kept")
+            why = f"{file} is read, and so isn't written\n"
+            self.equal(f"{option} {file.name}", (fault_of(files[0], option, file), file.read_text()),
+                       (why, "kept"))
+        other = pathlib.Path(self.folder, "run.17.html")
+        other.write_text("a page")
+        got = fault_of(files[0], "--converter", "false", "--html", other)
+        self.equal("another file may be written", (got,), (f"false made no facts of {files[0]}\n",))
 
     def test_what_a_choice_leaves(self):
         """What --thread, --mutex and --since leave."""
@@ -265,13 +306,15 @@ class Report(Case):
 
     def test_each_wait_is_in_one_finding(self):
         """Each wait is in one finding, but for links of chains; the sums are those of the rows."""
-        wrong = []
-        for seed, (_, found, out) in enumerate(random_findings()):
-            waits = [wait.line for one in found.of("late", "stalled", "bounded", "wait")
+        wrong, many = [], 0
+        for seed, (text, found, out) in enumerate(random_findings()):
+            waits = [wait.line for one in found.of("late", "gave-up", "stalled", "bounded", "wait")
                      for wait in one.waits]
             listed = Rows.read(out)
             dead = {wait.line for wait in listed.open_waits().values()} - set(waits)
-            inverted = [wait for wait in listed.waits if wait.inverted]
+            given_up = [wait.line for wait in listed.waits if is_given_up(wait, text, listed)]
+            many += len(given_up)
+            inverted = [wait for wait in listed.waits if wait.inverted and wait.line not in given_up]
             late = sum(one.total for one in found.of("late"))
             if sorted({*waits, *dead}) != [*sorted(wait.line for wait in listed.waits)]:
                 wrong.append(f"{seed}: waits")
@@ -280,7 +323,10 @@ class Report(Case):
             is_bad = bool(inverted or listed.deadlocks)
             if is_bad != bool(found.of("late", "deadlock")) or found.status < is_bad:
                 wrong.append(f"{seed}: status")
-        self.check("each wait is in a finding, and the status is that of the rows", ", ".join(wrong))
+            told = [wait.line for one in found.of("gave-up") for wait in one.waits]
+            wrong += [] if sorted(given_up) == sorted(told) else [f"{seed}: those that gave up"]
+        self.check("each wait is in a finding, and the status is that of the rows",
+                   ", ".join(wrong) or (None if many > 50 else f"{many} gave up"))
 
     def test_who_had_to_run(self):
         """Those who had to run are said in the order of their longest parts, each at its level then."""
