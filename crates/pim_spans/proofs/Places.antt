@@ -1,6 +1,6 @@
 -- What is kept by place.
 use Rattle.std.proofs.Common.{◌≡◌, ◌≢◌, ◌≤◌, ◌<◌, ◌⊎◌, ◌∙◌, ◌-◌, ◌+◌, ◌++◌, ℕ, zero, suc, List, [], ◌∷◌, length, Option}
-use Rattle.std.proofs.Common.{Some, None, refl, sym, ap, set, get_or, arith, subst, inl, inr, length-append, add-one, slice_get}
+use Rattle.std.proofs.Common.{Some, None, sym, ap, set, get_or, arith, subst, inl, inr, length-append, add-one, slice_get}
 use Rattle.std.proofs.lemmas.Bool.{cases_lt}
 use Rattle.std.proofs.lemmas.Bool.Decides.{eqb_tells}
 use Rattle.std.proofs.lemmas.Option.{slice_get_past}
@@ -8,7 +8,7 @@ use Rattle.pim_waits.proofs.Lists.{nth-left, nth-last}
 use Rattle.pim_base.specs.Lists.{nth}
 use Rattle.pim_rows.proofs.Opening.{get_place, set_place, set_but}
 use Rattle.pim_spans.specs.declared.track.Track.{Track}
-use Rattle.pim_spans.specs.Kept.{Kept, kept_of, kept_at}
+use Rattle.pim_spans.specs.Kept.{kept_of, kept_at}
 
 pub kept_get :
     (ts : List Track) (n : ℕ) (t : Track)

@@ -7,7 +7,7 @@ use Rattle.pim_base.proofs.Greatest.{numbers-more}
 use Rattle.pim_world.specs.Worlds.{World}
 use Rattle.pim_rows.specs.Moments.{Moment, now, clock}
 use Rattle.pim_spans.specs.declared.kind.Kind.{Kind}
-use Rattle.pim_spans.specs.Spans.{Holding, Window, start, lasting, ended, spans, within}
+use Rattle.pim_spans.specs.Spans.{Window, start, lasting, ended, within}
 use Rattle.pim_spans.specs.Words.{span_text}
 use Rattle.pim_spans.specs.Holding.{holding}
 use Rattle.pim_spans.specs.Kept.{Kept, IsKept, AreKept, all_text}

@@ -1,5 +1,5 @@
 -- When the same holds.
-use Rattle.std.proofs.Common.{◌≡◌, refl, ap, Option, Some, None, Bool, true, false}
+use Rattle.std.proofs.Common.{◌≡◌, refl, ap, Option, Some, None}
 use Rattle.std.proofs.lemmas.Bool.Decides.{Decides-like}
 use Rattle.std.specs.Bool.{Decides}
 use Rattle.pim_world.specs.Standing.{Key, same_key}

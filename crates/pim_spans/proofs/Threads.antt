@@ -1,6 +1,6 @@
 -- What is kept of threads, as it goes on by a line.
-use Rattle.std.proofs.Common.{◌≡◌, ◌≢◌, ◌≤◌, ◌<◌, ◌⊎◌, ◌+◌, ◌∙◌, ◌||◌, ℕ, Bool, true, false, List, [], ◌∷◌}
-use Rattle.std.proofs.Common.{length, take, get_or, refl, sym, ap, subst, inl, inr}
+use Rattle.std.proofs.Common.{◌≡◌, ◌≢◌, ◌≤◌, ◌<◌, ◌+◌, ◌∙◌, ◌||◌, ℕ, Bool, true, false, List, [], ◌∷◌}
+use Rattle.std.proofs.Common.{length, take, get_or, refl, sym, subst, inl, inr}
 use Rattle.std.specs.Prelude.{◌==◌}
 use Rattle.std.proofs.lemmas.Bool.{eq-eqb}
 use Rattle.std.proofs.lemmas.Bool.Decides.{eqb_tells}
@@ -12,7 +12,7 @@ use Rattle.pim_spans.specs.declared.kind.Kind.TheVariants as kinds
 use Rattle.pim_spans.specs.declared.thread_tracks.ThreadTracks.{ThreadTracks}
 use Rattle.pim_spans.specs.Spans.{Holding, Window}
 use Rattle.pim_spans.specs.Holding.{holding, owned_by}
-use Rattle.pim_spans.specs.Kept.{Kept, IsKept, IsEither, AreKept, kept_at}
+use Rattle.pim_spans.specs.Kept.{Kept, IsKept, IsEither, AreKept}
 use Rattle.pim_spans.specs.Following.{IsThread, AreThreads, IsThreadEither, IsThreadLike, IsUnmoved}
 use Rattle.pim_spans.specs.Following.{AreUnmoved}
 use Rattle.pim_spans.proofs.Kept.{kept_still}

@@ -1,5 +1,5 @@
 -- What a line leaves of what holds of threads and mutexes.
-use Rattle.std.proofs.Common.{◌≡◌, ◌≢◌, ◌≤◌, ◌<◌, ◌⊎◌, ◌+◌, ◌||◌, ◌++◌, ◌∙◌, ℕ, zero, suc, Bool, true, false}
+use Rattle.std.proofs.Common.{◌≡◌, ◌≢◌, ◌≤◌, ◌<◌, ◌⊎◌, ◌||◌, ◌∙◌, ℕ, zero, suc, Bool, true, false}
 use Rattle.std.proofs.Common.{List, [], ◌∷◌, length, length-append, Option, Some, None, is_some, unwrap_or, refl, sym}
 use Rattle.std.proofs.Common.{ap, subst, inl, inr, arith, not, nat_lt, ◌&&◌, if◌then◌else◌}
 use Rattle.std.specs.Option.{option_and_then, option_map, option_map_or}
@@ -7,7 +7,7 @@ use Rattle.std.specs.Prelude.{◌==◌}
 use Rattle.std.proofs.lemmas.Bool.{cases_lt, eq-eqb}
 use Rattle.std.proofs.lemmas.Option.{slice_get_past, same_Some}
 use Rattle.pim_base.specs.Lists.{nth, contains}
-use Rattle.pim_base.specs.State.{State, IsTask, base_of, wait_of, owner_of}
+use Rattle.pim_base.specs.State.{State, IsTask, wait_of, owner_of}
 use Rattle.pim_base.specs.Chains.{chain, blocker}
 use Rattle.pim_base.specs.declared.steps.Wait.{Wait}
 use Rattle.pim_fact_lines.specs.declared.line.Line.{Line}
@@ -15,12 +15,12 @@ use Rattle.pim_fact_lines.specs.declared.line.Line.TheVariants as lines
 use Rattle.pim_fact_lines.specs.declared.line.What.{What}
 use Rattle.pim_fact_lines.specs.declared.line.What.TheVariants as whats
 use Rattle.pim_waits.specs.Touched.{IsUntouched, Touches}
-use Rattle.pim_waits.specs.Waiting.{gets, way, runner, other_end, last_item}
+use Rattle.pim_waits.specs.Waiting.{gets, runner, other_end, last_item}
 use Rattle.pim_waits.proofs.Lists.{contains-first, contains-later, nth_none}
-use Rattle.pim_world.specs.Worlds.{World, Kernel, no_kernel}
+use Rattle.pim_world.specs.Worlds.{World, no_kernel}
 use Rattle.pim_world.specs.After.{after, after_what, at_time, with_kernel}
 use Rattle.pim_world.specs.Touching.{declares}
-use Rattle.pim_world.specs.Standing.{Key, standing, in_place_of, mutex_number, meanwhile_key, meanwhile_of, run_level}
+use Rattle.pim_world.specs.Standing.{standing, in_place_of, mutex_number, meanwhile_key, meanwhile_of, run_level}
 use Rattle.pim_rows.specs.Affected.{AreWaits, affects_all, is_of_object}
 use Rattle.pim_rows.specs.Found.{actor, mutex_of}
 use Rattle.pim_rows.specs.Moments.{Moment, now}
@@ -29,8 +29,8 @@ use Rattle.pim_rows.proofs.Frames.{fact_kept, wait-after, owner-after}
 use Rattle.pim_rows.proofs.RunChanges.{base_len-fact}
 use Rattle.pim_rows.proofs.SameStanding.{standing_same, way_first, AreWaits-after}
 use Rattle.pim_spans.specs.declared.kind.Kind.TheVariants as kinds
-use Rattle.pim_spans.specs.Spans.{start, Start}
-use Rattle.pim_spans.specs.Holding.{holding, level_of, awaited_by, owned_by, wait_line, of_wait}
+use Rattle.pim_spans.specs.Spans.{Start}
+use Rattle.pim_spans.specs.Holding.{holding, level_of, awaited_by, wait_line, of_wait}
 use Rattle.pim_spans.specs.Following.{IsUnmoved, AreUnmovedBy, moment_of, with_first}
 use Rattle.pim_spans.proofs.Kept.{start-same}
 

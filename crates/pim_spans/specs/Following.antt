@@ -1,5 +1,5 @@
 -- What is kept of the lines so far.
-use Rattle.std.specs.Prelude.{◌≡◌, ◌≤◌, ◌+◌, ℕ, false, List, [], ◌∷◌, Option, Some, None}
+use Rattle.std.specs.Prelude.{◌≡◌, ◌≤◌, ◌+◌, ℕ, false, List, ◌∷◌, Option, Some, None}
 use Rattle.pim_base.specs.Lists.{contains}
 use Rattle.pim_fact_lines.specs.declared.line.Line.{Line}
 use Rattle.pim_world.specs.After.{after}
@@ -7,7 +7,6 @@ use Rattle.pim_world.specs.Held.{world_of}
 use Rattle.pim_rows.specs.Affected.{AreWaits}
 use Rattle.pim_world.specs.Texts.{line_after}
 use Rattle.pim_rows.specs.Moments.{Moment, now, number, followed_by}
-use Rattle.pim_spans.specs.declared.kind.Kind.{Kind}
 use Rattle.pim_spans.specs.declared.kind.Kind.TheVariants as kinds
 use Rattle.pim_spans.specs.declared.thread_tracks.ThreadTracks.{ThreadTracks}
 use Rattle.pim_spans.specs.declared.follower.Follower.{Follower}

@@ -24,7 +24,7 @@ pub loop-rest-preserved : goal.loop-rest-preserved
 loop-rest-preserved c =
     let inv = c.loop-rest.invariant in
     let took = taken _ _ _ c.in_default.is (c.in_ok-why.ensures.taken inv.1 inv.3) in (
-      c.take-why.ensures.window ∙ inv.0,
+      c.take.ensures.window ∙ inv.0,
       followed_by inv.1 took.0,
       next _ _ took.0 c.next_line-in-loop-rest.ensures.lines inv.2 took.1,
       took.2,

@@ -1,4 +1,3 @@
-use Rattle.std.proofs.Common.{ap, ◌++◌, ◌∙◌, ℕ, List}
 use Rattle.pim_world.specs.Held.{world_of}
 use Rattle.pim_spans.specs.Kept.{kept_at, all_text}
 use Rattle.pim_spans.proofs.Puts.{one_more}

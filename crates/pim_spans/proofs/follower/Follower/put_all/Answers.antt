@@ -1,4 +1,4 @@
-use Rattle.std.proofs.Common.{◌≡◌, ◌∙◌, ◌++◌, ℕ, List, ap, length, flat_map}
+use Rattle.std.proofs.Common.{◌≡◌, ◌∙◌, ◌++◌, ℕ, List, ap, length}
 use Rattle.pim_base.specs.State.{State}
 use Rattle.pim_world.specs.Worlds.{World}
 use Rattle.pim_world.specs.Held.{world_of}

@@ -1,4 +1,4 @@
-use Rattle.std.proofs.Common.{◌≡◌, ◌≢◌, ◌+◌, ◌∙◌, ℕ, false, List, [], Some, ap, sym, subst}
+use Rattle.std.proofs.Common.{◌≡◌, ◌+◌, ◌∙◌, ℕ, false, List, [], ap, sym, subst}
 use Rattle.pim_waits.specs.Touched.{Touches}
 use Rattle.pim_world.specs.Worlds.{World}
 use Rattle.pim_world.specs.After.{after}
