@@ -34,6 +34,8 @@ RUNS = (
     ("check", "two tasks", TWO_TASKS, b"accepted 10\n"),
 )
 LINES = (b"pim: memory\n", b"pim: shared memory\n", b"pim: shared no place\n")
+# How a call ends without memory. The last line is the toolchain's: it is printed if the arguments can't be read.
+NO_MEMORY = r"out of memory (in|before) the call|^Error: Kind\(OutOfMemory\)$"
 
 
 def sweep(faulty, command, text=b""):
@@ -86,7 +88,7 @@ class FailingAllocations(Case):
         for number, (status, out, err) in sweep(self.faulty, [self.soak, "allocations", name]):
             said = (out + err).decode(errors="replace")
             failed += "out of memory in the call" in said
-            if status != 0 and not re.search("out of memory (in|before) the call", said):
+            if status != 0 and not re.search(NO_MEMORY, said, re.MULTILINE):
                 self.fail(f"allocation {number}: status {status}, {said.strip()[-200:]}")
         return failed
 
