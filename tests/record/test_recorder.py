@@ -284,7 +284,7 @@ LAWS = {
     "a thread without THREAD": (BEGIN[:1] + [(2, G, 0x5000, 0, K, 0)], "first record"),
     "a second THREAD": (BEGIN + BEGIN[:1], "first record"),
     "an unknown event": (BEGIN + [(1, 30, 0, 0, 0, 0)], "no event 30"),
-    "an unknown call": (BEGIN + [(1, G, 0x5000, 0, K, 5)], "no call 5"),
+    "an unknown call": (BEGIN + [(1, G, 0x5000, 0, K, 6)], "no call 6"),
     "an unknown policy": (BEGIN + [(1, reader.PRIORITY, 0, 9, 4, 0)], "no policy 4"),
     "a detail that isn't one": (BEGIN + [(1, G, 0x5000, 0, 0x2C, 0)], "no detail"),
     "a ceiling without PROTECT": (BEGIN + [(1, G, 0x5000, 0, 0x1124, 0)], "no detail"),
