@@ -683,7 +683,7 @@ class Recorder(Case):
         self.equal("another library that is preloaded stays", (preloaded.done.stdout,), (wanted,))
         self.sanitized(self.folder)
         self.other_files(self.folder)
-        self.lengths(self.folder)
+        self.check_sizes_of_files(self.folder)
         self.names(self.folder)
         self.fresh(self.folder)
         named = pathlib.Path(self.folder, "named")
@@ -719,7 +719,7 @@ class Recorder(Case):
         self.equal("without --kernel a file NAME.kernel is kept", got, (0, "a letter\n"))
         beside.unlink()
 
-    def lengths(self, folder):
+    def check_sizes_of_files(self, folder):
         """A log's room, as it is given or not. Its file, and an archive of it, have what was written, and no more."""
         for name, words, chunks in (("--output= and --size=", ["--size=2"], 123), ("no size", [], 16379)):
             path = pathlib.Path(folder, "a=b")
