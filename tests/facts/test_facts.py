@@ -6,6 +6,7 @@ program that is given: rows, and with --spans spans. Then looks whether the laws
 import collections
 import os
 import pathlib
+import random
 import re
 import shlex
 import sys
@@ -18,6 +19,7 @@ PLAIN = ROOT / "tests/facts/plain"
 sys.path.append(str(PLAIN))
 import laws
 import random_facts
+import renumbered
 import rows
 import spans
 from world import MOST_THREADS
@@ -241,6 +243,18 @@ class Facts(Case):
                 broken += [f"seed {seed}: {law}" for law in wrong]
         self.check(f"the laws of ROWS.md hold in {TEXTS} random texts", "; ".join(broken[:3]))
         self.equal("random texts have each status", (statuses,), ({0, 1, 2},))
+
+    def test_other_numbers_change_nothing_else(self):
+        """Rows of random texts whose threads, mutexes and objects have other numbers are the rows with these numbers."""
+        differ = []
+        for seed in range(TEXTS):
+            text = random_facts.RandomText(seed).data()
+            numbers = renumbered.Numbers(text, random.Random(seed))
+            for (program, (status, out, _)), (_, got) in zip(said(text), said(numbers.text(text))):
+                wanted = status, numbers.rows(out), ""
+                if (got[0], sorted(got[1].splitlines()), got[2]) != wanted:
+                    differ.append(f"{program}, seed {seed}: {got} in place of {wanted}")
+        self.check(f"other numbers change nothing else in {TEXTS} random texts", "; ".join(differ[:2]))
 
     def test_compare_finds_a_difference(self):
         """The command compare finds where a program says something else than rows.py."""
