@@ -11,6 +11,7 @@ use Rattle.pim_base.proofs.Places.{nth-get_or}
 use Rattle.pim_rows.specs.Moments.{Moment}
 use Rattle.pim_rows.specs.Begun.{WaitStart}
 use Rattle.pim_rows.specs.Tallies.{Tally, total}
+use Rattle.pim_rows.proofs.NoWaits.{twelfth, wait_that}
 use Rattle.pim_rows.specs.Rows.{Row, row_text, wait_row, wait_rows, wait_with, inverted_row}
 use Rattle.pim_rows.specs.Rows.{stalled_row, meanwhile_row, text_of}
 use Rattle.pim_rows.specs.Ending.{Puts}
@@ -91,7 +92,7 @@ puts_one_more f xs i x o o1 o2 a b c d lt is p q =
 
 -- ---- how many rows are of waits
 
-none_counted :
+pub none_counted :
     {X : Type 0} (p : Row → Bool) (g : X → Row)
     → ((x : X) → p (g x) ≡ false) → (xs : List X) → count_by p (map g xs) ≡ 0
 none_counted p g never [] = refl
@@ -102,28 +103,28 @@ none_counted p g never (x ∷ xs) =
 
 -- only the first row of a wait is of a wait
 pub count-wait_rows :
-    (h : ℕ → Bool) (s : WaitStart) (ms : List Moment) (until : ℕ) (times : Tally)
-    → count_by (wait_with h) (wait_rows s ms until times) ≡ cond (h (total times.inverted)) 1 0
+    (h : Row → Bool) (s : WaitStart) (ms : List Moment) (until : ℕ) (times : Tally)
+    → count_by (wait_that h) (wait_rows s ms until times) ≡ cond (h (wait_row s ms until times)) 1 0
 count-wait_rows h s ms until times =
-    let f : Row → ℕ = λ r. cond (wait_with h r) 1 0 in
+    let f : Row → ℕ = λ r. cond (wait_that h r) 1 0 in
     let a = map (inverted_row s.line) times.inverted in
     let b = map (stalled_row s.line) times.stalled in
     let c = map (meanwhile_row s.line) times.meanwhile in
-    let first : count_by (wait_with h) (wait_rows s ms until times)
-    ≡ cond (h (total times.inverted)) 1 0 + count_by (wait_with h) (a ++ b ++ c) =
+    let first : count_by (wait_that h) (wait_rows s ms until times)
+    ≡ cond (h (wait_row s ms until times)) 1 0 + count_by (wait_that h) (a ++ b ++ c) =
     sum_by-cons f (wait_row s ms until times) (a ++ b ++ c) in
-    let abc : count_by (wait_with h) (a ++ b ++ c)
-    ≡ count_by (wait_with h) (a ++ b) + count_by (wait_with h) c = sum_by-append f (a ++ b) c in
-    let ab : count_by (wait_with h) (a ++ b) ≡ count_by (wait_with h) a + count_by (wait_with h) b =
+    let abc : count_by (wait_that h) (a ++ b ++ c)
+    ≡ count_by (wait_that h) (a ++ b) + count_by (wait_that h) c = sum_by-append f (a ++ b) c in
+    let ab : count_by (wait_that h) (a ++ b) ≡ count_by (wait_that h) a + count_by (wait_that h) b =
     sum_by-append f a b in
-    let no_a : count_by (wait_with h) a ≡ 0 =
-    none_counted (wait_with h) (inverted_row s.line) (λ x. refl) times.inverted in
-    let no_b : count_by (wait_with h) b ≡ 0 =
-    none_counted (wait_with h) (stalled_row s.line) (λ x. refl) times.stalled in
-    let no_c : count_by (wait_with h) c ≡ 0 =
-    none_counted (wait_with h) (meanwhile_row s.line) (λ x. refl) times.meanwhile in
-    let rest : count_by (wait_with h) (a ++ b ++ c) ≡ 0 = omega arith in
-    first ∙ ap (λ n. cond (h (total times.inverted)) 1 0 + n) rest ∙ omega arith
+    let no_a : count_by (wait_that h) a ≡ 0 =
+    none_counted (wait_that h) (inverted_row s.line) (λ x. refl) times.inverted in
+    let no_b : count_by (wait_that h) b ≡ 0 =
+    none_counted (wait_that h) (stalled_row s.line) (λ x. refl) times.stalled in
+    let no_c : count_by (wait_that h) c ≡ 0 =
+    none_counted (wait_that h) (meanwhile_row s.line) (λ x. refl) times.meanwhile in
+    let rest : count_by (wait_that h) (a ++ b ++ c) ≡ 0 = omega arith in
+    first ∙ ap (λ n. cond (h (wait_row s ms until times)) 1 0 + n) rest ∙ omega arith
 
 -- the rows of a wait were appended
 pub puts_wait :
@@ -132,6 +133,6 @@ pub puts_wait :
     → Puts (wait_rows s ms until times) o o1 1 (cond (nat_lt 0 (total times.inverted)) 1 0)
 puts_wait s ms until times o o1 text = record {
   text = text;
-  waits = sym (count-wait_rows (λ n. true) s ms until times);
-  inverted = sym (count-wait_rows (λ n. nat_lt 0 n) s ms until times);
+  waits = sym (count-wait_rows (twelfth (λ n. true)) s ms until times);
+  inverted = sym (count-wait_rows (twelfth (λ n. nat_lt 0 n)) s ms until times);
 }

@@ -21,6 +21,7 @@ use Rattle.pim_rows.specs.Kept.{AreStarts}
 use Rattle.pim_rows.specs.Ending.{ended_tally, AreCounts, ArePut}
 use Rattle.pim_rows.specs.declared.ended_rows.EndedWaits.{EndedWaits}
 use Rattle.pim_rows.proofs.Appended.{count-wait_rows}
+use Rattle.pim_rows.proofs.NoWaits.{twelfth}
 
 some_if :
     {A : Type 0} (b : Bool) (x y : A)
@@ -47,8 +48,8 @@ pub wait_counted :
     → AreCounts counts (wait_rows s ms until times)
 wait_counted s ms until times counts waits inverted =
     record {
-      waits = waits ∙ sym (count-wait_rows (λ n. true) s ms until times);
-      inverted = inverted ∙ sym (count-wait_rows (λ n. nat_lt 0 n) s ms until times);
+      waits = waits ∙ sym (count-wait_rows (twelfth (λ n. true)) s ms until times);
+      inverted = inverted ∙ sym (count-wait_rows (twelfth (λ n. nat_lt 0 n)) s ms until times);
     }
 
 -- ---- the rows

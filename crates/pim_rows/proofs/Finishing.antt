@@ -13,6 +13,7 @@ use Rattle.pim_rows.specs.Rows.{section_row, nests_row, deadlock_rows, end_row, 
 use Rattle.pim_rows.specs.Rows.{status_of, was_inverted}
 use Rattle.pim_rows.specs.declared.row.Word.TheVariants as words
 use Rattle.pim_rows.proofs.NoWaits.{count-flat_map, count-lasting_block, count-lasting_run}
+use Rattle.pim_rows.proofs.NoWaits.{wait_that}
 
 text-append : (xs ys : List Row) → text_of (xs ++ ys) ≡ text_of xs ++ text_of ys
 text-append [] ys = refl
@@ -41,11 +42,11 @@ none_bad n d none =
 module _ (ms : List Moment) where
   -- the rows of what ended, and of the waits that last, are all that are of waits
   pub all_counted :
-      (h : ℕ → Bool) (a b : ℕ) → a ≡ count_by (wait_with h) (ended_rows ms)
-      → b ≡ count_by (wait_with h) (flat_map (lasting_wait ms) (by_number (now ms)))
-      → a + b ≡ count_by (wait_with h) (all_rows ms)
+      (h : Row → Bool) (a b : ℕ) → a ≡ count_by (wait_that h) (ended_rows ms)
+      → b ≡ count_by (wait_that h) (flat_map (lasting_wait ms) (by_number (now ms)))
+      → a + b ≡ count_by (wait_that h) (all_rows ms)
   all_counted h a b is_a is_b =
-      let p = wait_with h in
+      let p = wait_that h in
       let f : Row → ℕ = λ r. cond (p r) 1 0 in
       let ts = by_number (now ms) in
       let ws = flat_map (lasting_wait ms) ts in

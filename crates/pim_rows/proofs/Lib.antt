@@ -32,3 +32,4 @@ pub mod SectionOwners
 pub mod SameStanding
 pub mod KeptLevels
 pub mod Calm
+pub mod EachWait

@@ -7,7 +7,7 @@ use Rattle.pim_rows.specs.Rows.{ended_rows, ended_run, by_number, wait_with, tex
 use Rattle.pim_rows.specs.Ending.{Puts, ArePut, ended_of}
 use Rattle.pim_rows.specs.declared.ended_rows.EndedWaits.{EndedWaits}
 use Rattle.pim_rows.proofs.Appended.{puts_more}
-use Rattle.pim_rows.proofs.NoWaits.{count-ended_run, count-flat_map}
+use Rattle.pim_rows.proofs.NoWaits.{count-ended_run, count-flat_map, twelfth}
 
 module _ (ms : List Moment) (l : Line) where
   abbrev runs_ended : List Row
@@ -18,10 +18,10 @@ module _ (ms : List Moment) (l : Line) where
     text = text;
     waits =
         sym (count-flat_map (wait_with (λ n. true)) (ended_run (followed_by ms l) ms)
-        (count-ended_run (λ n. true) (followed_by ms l) ms) (by_number (now ms)));
+        (count-ended_run (twelfth (λ n. true)) (followed_by ms l) ms) (by_number (now ms)));
     inverted =
         sym (count-flat_map (wait_with (λ n. nat_lt 0 n)) (ended_run (followed_by ms l) ms)
-        (count-ended_run (λ n. nat_lt 0 n) (followed_by ms l) ms) (by_number (now ms)));
+        (count-ended_run (twelfth (λ n. nat_lt 0 n)) (followed_by ms l) ms) (by_number (now ms)));
   }
 
   pub written_after :

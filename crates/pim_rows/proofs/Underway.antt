@@ -1,5 +1,5 @@
 -- One line more, and the first invalid one.
-use Rattle.std.proofs.Common.{◌≡◌, ℕ, zero, suc, ◌+◌, ◌-◌, length, List, [], ◌∷◌, ◌++◌, take, Bool}
+use Rattle.std.proofs.Common.{◌≡◌, ℕ, suc, ◌+◌, ◌-◌, length, List, [], ◌∷◌, ◌++◌, take, Bool}
 use Rattle.std.proofs.Common.{true, false, if◌then◌else◌, ◌==◌, arith, refl, sym, ap, ◌∙◌, inr}
 use Rattle.std.proofs.Common.{Option, Some, None, is_some, MatchOption}
 use Rattle.std.specs.Option.{option_map}

@@ -19,3 +19,4 @@ pub mod Inversions
 pub mod SectionTimes
 pub mod DeadlockRows
 pub mod SectionOwners
+pub mod EachWait

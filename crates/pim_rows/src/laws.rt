@@ -4,6 +4,7 @@
 ghost use Rattle.pim_rows.specs.Laws.{SumsLaw, OrderLaw, BoundsLaw};
 ghost use Rattle.pim_rows.specs.Inversions.{InversionLaw};
 ghost use Rattle.pim_rows.specs.DeadlockRows.{DeadlockLaw};
+ghost use Rattle.pim_rows.specs.EachWait.{EachWaitLaw};
 ghost use Rattle.pim_rows.specs.SectionOwners.{SectionOwnerLaw};
 ghost use Rattle.pim_rows.specs.SectionTimes.{UsedLaw, WithoutOffLaw};
 
@@ -48,4 +49,10 @@ pub fn deadlock_law()
 /// A section is of the thread that owns the mutex after each line of it.
 pub fn section_owner_law()
     ensures { SectionOwnerLaw }
+{}
+
+/// Each wait of a text has one row `wait`, with its line, its thread and its mutex. No other row is
+/// one.
+pub fn each_wait_law()
+    ensures { EachWaitLaw }
 {}

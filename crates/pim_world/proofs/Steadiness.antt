@@ -244,7 +244,7 @@ steady_first = record {
 -- ---- texts
 
 -- a line that is read may follow
-line_follows :
+pub line_follows :
     (w : World) (bytes : List ℕ) (line : Line)
     → line_after w bytes ≡ Some line
     → may_be_next w line ≡ true

@@ -7,6 +7,7 @@ use Rattle.pim_rows.specs.Ending.{Puts}
 use Rattle.pim_rows.specs.Rows.{text_of, by_number, lasting_wait, lasting_block, section_row}
 use Rattle.pim_rows.specs.Rows.{nests_row, deadlock_rows}
 use Rattle.pim_rows.specs.Runs.{levels_of}
+use Rattle.pim_rows.proofs.NoWaits.{twelfth}
 use Rattle.pim_rows.proofs.Finishing.{all_counted, ended_with, all_written, status_is, some_bad}
 use Rattle.pim_rows.proofs.Finishing.{none_bad}
 use Rattle.pim_rows.proofs.tracker.Tracker.put_rest.Goals as goal
@@ -51,10 +52,10 @@ returns c ms tracks =
     let count : c.in_ok-deadlocks.deadlocks ≡ length (deadlock_rows (now ms)) =
     c.in_ok-deadlocks.ensures.count ∙ ap (λ (v : World). length (deadlock_rows v)) w in
     let all =
-    c.in_ok-waits.ensures ∙ all_counted ms (λ n. true) _ _ tracks.written.waits waits.waits in
+    c.in_ok-waits.ensures ∙ all_counted ms (twelfth (λ n. true)) _ _ tracks.written.waits waits.waits in
     let inverted =
     c.in_ok-inverted.ensures
-    ∙ all_counted ms (λ n. nat_lt 0 n) _ _ tracks.written.inverted waits.inverted in
+    ∙ all_counted ms (twelfth (λ n. nat_lt 0 n)) _ _ tracks.written.inverted waits.inverted in
     let time = c.clock.ensures ∙ ap (λ (v : World). v.clock) w in
     let end = ended_with ms _ _ _ _ _ tracks.number time all inverted count in
     let text =
