@@ -200,10 +200,10 @@ class Pages(Case):
         """A heading names files of definitions; the first word of each row below it is defined in one of them."""
         wrong, specs = [], ""
         for page in (ROOT / "docs/DEFINITIONS.md", ROOT / "docs/TEXT.md"):
-            for line in prose(page):
+            for line in page.read_text().splitlines():
                 if line.startswith("## "):
                     specs = "\n".join(SPECS.get(name, "") for name in re.findall(r"`(\w+\.antt)`", line))
-                row = re.match(r"\| `([a-z]\w*_\w+|[A-Z][a-z]+[A-Z]\w+)\b", line)
+                row = re.match(r"(?:\| `|    )([a-z]\w*_\w+|[A-Z][a-z]+[A-Z]\w+)\b", line)
                 defined = row and rf"^(abbrev |unfoldable )?pub (record )?{row[1]}\b"
                 if row and specs and not re.search(defined, specs, re.M):
                     wrong.append(f"{page.name}: {row[1]}")
