@@ -30,6 +30,7 @@ def page(name):
     return (ROOT / "docs" / name).read_text()
 
 
+SOMETHING = {"time", "level", "name", "protocol", "kind", "word", "cpu"}  # words that stand for others
 DECLARED = "facts 1", "thread 1 30 high", "thread 2 10 low", "mutex 1 inherit map_lock"
 # What happens, the lines after those, and the first invalid line, or None.
 FOLLOWING = (
@@ -229,8 +230,10 @@ class Facts(Case):
         found = {line.split()[0] for line in lines}
         self.equal("each kind of row is in the suite", (found,), (kinds,))
         section = section_of(page("FACTS.md"), "## Bytes, lines, words")
-        section = section.partition("| Line |")[2].partition("A line from")[0]
-        listed = {word for word in re.findall(r"`([a-z-]+)`", section)}
+        forms = re.findall(r"(?m)^    ((?:time|thread|mutex|object|unseen) ?\S.*?)  ", section.partition("*kind* is")[0])
+        kinds = section.partition("*protocol* is")[2].partition("A line from")[0]
+        listed = {word for form in forms for word in re.findall(r"[a-z-]{2,}", form)} - SOMETHING
+        listed |= set(re.findall(r"`([a-z-]+)`", kinds))
         found = {word for path in SUITE.glob("*.facts") for word in path.read_text().split()}
         missing = listed - found if len(listed) > 25 else {"the table isn't read"}
         self.check("each word of a line is in the suite", ", ".join(sorted(missing)))
