@@ -32,6 +32,20 @@ def page(name):
     return (ROOT / "docs" / name).read_text()
 
 
+SOMETHING = {"time", "level", "name", "protocol", "kind", "word", "cpu"}  # words that stand for others
+DECLARED = "facts 1", "thread 1 30 high", "thread 2 10 low", "mutex 1 inherit map_lock"
+# What happens, the lines after those, and the first invalid line, or None.
+FOLLOWING = (
+    ("nothing happens", "", None),
+    ("a thread waits for a free mutex, then for another", "0 1 waits 1; 1 2 granted 1; 2 2 released 1; 2 1 gave-up 1",
+     None),
+    ("no thread is on a CPU after a lost", "0 1 on 0; 5 1 off ready; 5 2 on 0; 9 lost 1; 9 1 on 0", None),
+    ("another thread owns it", "0 2 granted 1; 1 1 granted 1", 6),
+    ("a space at the end is an empty word", "0 1 granted 1 ; 1 end", 5),
+    ("of isn't a place", "0 1 waits 1 of 2", 5),
+    ("nothing follows the end", "1 end; 2 1 granted 1", 6))
+
+
 def section_of(text, heading):
     """Returns the text below a heading, up to the next one that isn't below it."""
     return text.partition(f"\n{heading}\n")[2].partition(f"\n{heading.split()[0]} ")[0]
@@ -188,20 +202,13 @@ class Facts(Case):
         wanted = "section 1 1 10 1 0 7 0\nsection 1 94352 10 1 50 4 50\nend 7 60 0 0 0\n"
         self.answers("the mutex of FACTS.md that is made again", text.encode(), (0, wanted, ""))
 
-    def test_examples_of_the_table(self):
-        """The table of FACTS.md that says whether lines are valid, and else which one isn't."""
-        section = section_of(page("FACTS.md"), "## Examples")
-        declared = re.findall(r"`([^`]+)`", section.partition("|")[0])
-        shown = re.findall(r"(?m)^\| (`.*`.*|none) \| (yes|no, line (\d+)): ", section)
-        count = len(re.findall(r"(?m)^\|", section)) - 2
-        self.equal("the table of examples is read", (len(shown),), (count,))
-        for cell, verdict, number in shown:
-            lines = [*declared, *re.findall(r"`([^`]+)`", cell)]
-            wanted = verdict != "yes", number or None
-            for program, (status, _, err) in said("".join(f"{line}\n" for line in lines).encode()):
+    def test_lines_that_may_follow(self):
+        for name, lines, invalid in FOLLOWING:
+            text = "".join(f"{line}\n" for line in [*DECLARED, *filter(None, lines.split("; "))])
+            for program, (status, _, err) in said(text.encode()):
                 line = re.match(r"pim-findings: line (\d+): ", err)
-                got = status == 2, line and line[1]
-                self.equal(f"{program}: the example {cell}", got, wanted)
+                got = status == 2, line and int(line[1])
+                self.equal(f"{program}: {name}", got, (invalid is not None, invalid))
 
     def test_each_reason_has_a_text(self):
         """Each reason of FACTS.md is that of a text in suite/facts/invalid, and is on the page.
@@ -209,8 +216,9 @@ class Facts(Case):
         A text with too many threads is made above.
         """
         section = section_of(page("FACTS.md"), "## Reasons")
-        listed = set(re.findall(r"(?m)^\| `(.*?)` \|", section)) - {"it should be: .."}
-        listed |= set(re.findall(r"(?m)^    (it should be: .*)", section))
+        layout = section.partition("    the first line is")
+        listed = set(re.findall(r"(?m)^    (\S.*?)(?:  |$)", "".join(layout[1:]))) - {"it should be: .."}
+        listed |= set(re.findall(r"(?m)^    (it should be: \w.*)", section))
         errors = [path.read_text().rstrip("\n") for path in SUITE.glob("invalid/*.error")]
         given = {error.split(": ", 2)[2] for error in errors}
         given.add(f"a text has at most {MOST_THREADS} threads")
@@ -224,8 +232,10 @@ class Facts(Case):
         found = {line.split()[0] for line in lines}
         self.equal("each kind of row is in the suite", (found,), (kinds,))
         section = section_of(page("FACTS.md"), "## Bytes, lines, words")
-        section = section.partition("| Line |")[2].partition("Nothing depends")[0]
-        listed = {word for word in re.findall(r"`([a-z-]+)`", section)}
+        forms = re.findall(r"(?m)^    ((?:time|thread|mutex|object|unseen) ?\S.*?)  ", section.partition("*kind* is")[0])
+        kinds = section.partition("*protocol* is")[2].partition("A line from")[0]
+        listed = {word for form in forms for word in re.findall(r"[a-z-]{2,}", form)} - SOMETHING
+        listed |= set(re.findall(r"`([a-z-]+)`", kinds))
         found = {word for path in SUITE.glob("*.facts") for word in path.read_text().split()}
         missing = listed - found if len(listed) > 25 else {"the table isn't read"}
         self.check("each word of a line is in the suite", ", ".join(sorted(missing)))

@@ -63,11 +63,10 @@ def keys_in(value):
 
 
 def documented():
-    """Returns the keys that the tables of the page have."""
+    """Returns the keys that the layouts of the page have, and with those of their objects in braces."""
     part = PAGE.partition("\n## The JSON of a report\n")[2].partition("\n## ")[0]
-    cells = re.findall(r"(?m)^\| (`.*?) \| (.*) \|$", part)
-    listed = {key for cell, _ in cells for key in re.findall(r"`(\w+)`", cell)}
-    inner = {key for _, text in cells for key in re.findall(r"`(\w+)`", text)}
+    listed = {key for keys in re.findall(r"(?m)^    ((?:\w+, )*\w+)(?:  |$)", part) for key in keys.split(", ")}
+    inner = {key for keys in re.findall(r"\{([\w, ]+)\}", part) for key in keys.split(", ")}
     return listed, listed | inner
 
 
