@@ -1,4 +1,4 @@
-"""The parts of ./test: what each is about, what is needed by one at a time, and which aren't of unittest yet."""
+"""The parts of ./test: what each is about, what is needed by one at a time, and what is built before."""
 
 PARTS = {
     "suite": "the texts of suite/ and examples/ on every implementation, as they must be answered",
@@ -35,7 +35,5 @@ BUILDS = {
     "the performer": ("suite conform", "make -s -C conform CFLAGS='-O2 -Werror' all programs"),
     "the page": ("suite web", "web/build"),
 }
-# Scripts that print lines 'ok NAME', 'FAIL NAME: why' and 'skip NAME: why'.
-SCRIPTS = {
-    "release": ["tests.release.test_release"],
-}
+# In whose place a program is tested that is given by --program.
+GIVEN = {"pim", "pim-findings"}

@@ -440,16 +440,3 @@ class Launcher(Case):
         counted = [line.split()[0] for line in lines if not line.startswith("#")]
         name = "launcher/seconds has the crates of the programs"
         self.equal(name, (sorted(counted),), (sorted(listed),))
-
-    def main(self):
-        with tempfile.TemporaryDirectory() as folder:
-            outline = Outline(folder)
-            parts = [self.test_a_build_that_fails_says_why, self.test_a_signal_ends_what_a_build_started, self.test_a_build_names_its_crates_and_proves_side_by_side, self.test_a_change_during_a_build_is_seen, self.test_one_of_two_builds_waits, self.test_what_is_proved_again_after_a_change]
-            parts[:0] = [self.test_help_and_version_are_printed_and_nothing_is_built, self.test_a_smaller_program_judges_while_the_program_is_not_built]
-            parts += [self.test_installs_the_program_and_its_page, self.test_another_program_is_built_and_installed_by_its_name, self.test_a_crate_that_can_wait_has_half_the_processes]
-            for part in parts:
-                part(outline)
-        self.test_each_crate_of_a_program_has_its_seconds()
-        self.test_the_launcher_and_libpim_have_the_version()
-        self.test_manual_pages_have_each_option_and_no_warning()
-        end()
