@@ -15,7 +15,7 @@ import tempfile
 import time
 import unittest
 
-from tests.parts import BUILDS, NAMED, ONE_AT_A_TIME, PARTS, SCRIPTS
+from tests.parts import BUILDS, GIVEN, NAMED, ONE_AT_A_TIME, PARTS
 
 ROOT = pathlib.Path(__file__).resolve().parents[1]
 ENDS = "== what was counted: "
@@ -52,31 +52,21 @@ def run_module(name, patterns):
     print(ENDS + json.dumps([result.passed, failed, skipped]))
 
 
-def counted(output, is_script):
-    """Returns a module's output without its last line, and what that counted: None if it isn't there.
-
-    A script prints 'ok NAME', 'FAIL NAME: why' and 'skip NAME: why', and at the end how many there are.
-    """
-    if not is_script:
-        text, _, last = output.rpartition(ENDS)
-        return (text, json.loads(last)) if last and text else (output, None)
-    lines = output.splitlines()
-    passed, failed = (sum(line.startswith(word) for line in lines) for word in ("ok ", "FAIL "))
-    skipped = [line[len("skip "):].split(": ", 1) for line in lines if line.startswith("skip ")]
-    whole = lines and lines[-1] == f"{passed + failed + len(skipped)} checks"
-    return output, [passed, failed, skipped] if whole else None
+def counted(output):
+    """Returns a module's output without its last line, and what that counted: None if it isn't there."""
+    text, _, last = output.rpartition(ENDS)
+    return (text, json.loads(last)) if last and text else (output, None)
 
 
 class Module:
     """A module's tests in a process of their own."""
 
     def __init__(self, part, name):
-        self.part, self.name, self.is_script = part, name, name in SCRIPTS.get(part, ())
+        self.part, self.name = part, name
         self.uses = {what for what, modules in ONE_AT_A_TIME.items() if name in modules}
 
     def start(self, patterns):
-        words = [self.name] if self.is_script else ["tests.run", "--module", self.name]
-        words += [word for pattern in patterns for word in ("-k", pattern)]
+        words = ["tests.run", "--module", self.name, *(word for it in patterns for word in ("-k", it))]
         self.output, self.began = tempfile.TemporaryFile("w+", errors="replace"), time.monotonic()
         how = {"stdin": subprocess.DEVNULL, "stdout": self.output, "stderr": subprocess.STDOUT}
         self.child = subprocess.Popen([sys.executable, "-m", *words], cwd=ROOT, start_new_session=True, **how)
@@ -84,7 +74,7 @@ class Module:
     def finish(self):
         """Prints what the module printed, and returns what it counted. One that broke off has failed."""
         self.output.seek(0)
-        text, counts = counted(self.output.read(), self.is_script)
+        text, counts = counted(self.output.read())
         if counts == [0, 0, []]:
             return counts  # no test of it was asked for
         minutes, seconds = divmod(round(time.monotonic() - self.began), 60)
@@ -101,15 +91,14 @@ class Module:
 
 def modules_of(part):
     """Returns the modules of a part."""
-    found = [f"tests.{part}.{path.stem}" for path in sorted((ROOT / "tests" / part).glob("test_*.py"))]
-    return [Module(part, name) for name in SCRIPTS.get(part, found)]
+    return [Module(part, f"tests.{part}.{path.stem}") for path in sorted((ROOT / "tests" / part).glob("test_*.py"))]
 
 
-def build(parts):
+def build(parts, left_out):
     """Builds what several modules use, one after the other, and returns how many builds failed."""
     failed = 0
     for name, (users, command) in BUILDS.items():
-        if parts & set(users.split()):
+        if name not in left_out and parts & set(users.split()):
             print(f"== building {name}, unless it is built", flush=True)
             how = {"stdout": subprocess.DEVNULL, "stderr": subprocess.PIPE, "text": True, "errors": "replace"}
             done = subprocess.run(["sh", "-c", command], cwd=ROOT, **how)
@@ -172,7 +161,8 @@ def main():
     if given.program:
         os.environ["PIM_PROGRAM"] = str(pathlib.Path(given.program).resolve())
     modules = [module for part in dict.fromkeys(given.parts or PARTS) for module in modules_of(part)]
-    unbuilt = 0 if given.patterns else build({module.part for module in modules})
+    parts, left_out = {module.part for module in modules}, GIVEN if given.program else ()
+    unbuilt = 0 if given.patterns else build(parts, left_out)
     counts = run_all(modules, given.patterns, given.jobs)
     passed, failed = (sum(it[at] for it in counts.values()) for at in (0, 1))
     failed += unbuilt

@@ -2,7 +2,7 @@
 
 Anywhere: compares the stored outputs of the set with pim's reports, sees what pim-conform says of outputs that are
 changed, and compares the model of the kernel's walk, mended, with pim on random texts. Where SCHED_FIFO is permitted:
-performs the set and random texts, lets threads storm for seconds, and ends what hangs.
+performs the set and random texts, and ends what hangs.
 """
 import os
 import platform
@@ -15,7 +15,7 @@ import subprocess
 import time
 import unittest
 
-from tests.conform.cases import ConformCase, setUpModule
+from tests.conform.cases import SET, ConformCase, is_known, last_cpu, setUpModule
 from tests.shared.checks import (ROOT, SECONDS, answer, children_of, difference, ended, is_gone,
                                  proc_text, program, threads_of, until)
 
@@ -23,7 +23,7 @@ import compare
 import fuzz
 from walk import HABITS, Walk
 
-CONFORM, SET, STORED = ROOT / "conform", ROOT / "conform/set", ROOT / "conform/performed"
+CONFORM, STORED = ROOT / "conform", ROOT / "conform/performed"
 TEXTS = sorted(SET.glob("*.pim"))
 CAUSES = {"kernel_stop": ("stop",), "kernel_stop_deadlock": ("stop",), "kernel_toptask": ("toptask",),
           "kernel_toptask_ceiling": ("toptask",), "kernel_pitree": ("pitree",), "kernel_stop_base": ("stop",),
@@ -85,20 +85,6 @@ REFUSED = {
 
 
 # ---- where SCHED_FIFO is permitted
-
-def is_known():
-    """Whether the expected differences of this kernel are there."""
-    return bool(list(SET.glob(f"kernel_*.{compare.kernel_of(f'Linux {platform.release()}')}")))
-
-
-def last_cpu():
-    return max(os.sched_getaffinity(0))
-
-
-def clock(name, *words):
-    """Returns the milliseconds that a program of the page says that a thread waited."""
-    return int(re.search(r" waited (\d+) ms ", answer([str(CONFORM / "out" / name), *words])[1].decode())[1])
-
 
 def long_text(folder):
     """A text that takes a minute: each of its many steps looks at each of its many tasks."""
@@ -315,15 +301,6 @@ class Performed(Checks):
         said = (status, b"the file of --marks: No space left" in err)
         self.equal("marks that can't be written", said, (2, True))
 
-    def test_storms_of_seconds(self):
-        """Threads on two CPUs stop, are judged, and end: whatever the kernel's priorities are."""
-        done = answer([CONFORM / "storm", "--seconds", "3", "--pim", program()], seconds=2 * SECONDS)
-        lines = done[1].decode().splitlines()
-        stops = re.fullmatch(r"([1-9]\d*) stops: (\d+) with a wrong priority, .*", lines[-1] if lines else "")
-        self.check("threads storm on two CPUs", None if stops and lines[0].startswith("on CPUs ") else f"{done}")
-        if stops:
-            self.check("the status of a storm", difference(done[:1], (1 if stops[2] != "0" else 0,)))
-
     def test_random_texts_on_which_the_model_agrees(self):
         """100 random texts on which the model of the system, with all habits, agrees with pim."""
         rng, texts = random.Random(5), []
@@ -366,26 +343,6 @@ class Performed(Checks):
         self.said("--fuzz", done, 0, "random texts, seed 2: ", " 0 of them unexplained", "raise", HABITS["raise"])
         kept = sorted(self.folder.glob("*.pim"))
         self.said("a kept text differs as expected", conform(*kept), 0, f"{len(kept)} differ as expected")
-
-    def test_programs_of_the_page(self):
-        """What the page's programs print, with the difference and without: how long a thread waits, in milliseconds."""
-        if not is_known():
-            return self.skip("the clocks of the page's programs", "what is expected of this kernel isn't known")
-        least = {"lost_boost": 300, "misplaced_boost": 300, "stale_boost": 70}
-        for name, wait in least.items():
-            long, short = clock(name), clock(name, "without")
-            for _ in range(5):  # other load only makes a wait longer
-                short = short if short < wait / 2 else min(short, clock(name, "without"))
-            self.check(f"the clock of {name}", None if long >= wait > 2 * short else f"{long} ms, {short} ms without")
-
-    def test_a_lost_boost_does_not_come_back(self):
-        """Without PREEMPT_RT a lost boost doesn't come back by a spinlock of the kernel."""
-        status, out, _ = answer([CONFORM / "out/regained_boost"])
-        if not is_known() or "PREEMPT_RT" in platform.version() or status == 77:
-            return self.skip("a boost that is lost stays so", out.decode().strip() or "it is another kernel")
-        said = re.sub(r" \d+ ms ", " .. ms ", out.decode())
-        wanted = "the owner is lowered, and executes at 20\nafter .. ms it executes at 20\n"
-        self.equal("a boost that is lost stays so", (status, said), (0, wanted))
 
     def test_the_performer_is_bound_to_its_cpu(self):
         """The performer is bound to the CPU that it is given, and its threads have their tasks' names."""

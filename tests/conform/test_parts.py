@@ -4,8 +4,6 @@ A shell script stands for the performer. Where random texts are performed, the t
 walk with two habits is the system.
 """
 import contextlib
-import importlib.machinery
-import importlib.util
 import io
 import os
 import pathlib
@@ -15,39 +13,13 @@ import time
 import types
 from unittest import mock
 
-from tests.conform.cases import ConformCase, setUpModule
+from tests.conform.cases import ConformCase, changed, fault_of, parsed_as, script, script_module, setUpModule
 from tests.shared.checks import ROOT, SECONDS, program
 
 import compare
 import fuzz
 from compare import Done
 from walk import HABITS, Walk
-
-
-def fault_of(call, *arguments):
-    """Returns the message of the fault that a call raises, and its status, or what it returns."""
-    try:
-        return call(*arguments)
-    except compare.Fault as fault:
-        return str(fault), fault.status
-
-
-@contextlib.contextmanager
-def changed(module, **values):
-    """Gives a module other values for a while."""
-    kept = {name: getattr(module, name) for name in values}
-    vars(module).update(values)
-    try:
-        yield
-    finally:
-        vars(module).update(kept)
-
-
-def script(folder, name, *lines):
-    path = folder / name
-    path.write_text("\n".join(["#!/bin/sh", *lines, ""]))
-    path.chmod(0o755)
-    return path
 
 
 # ---- compare.py
@@ -138,25 +110,6 @@ WALKS = {
 
 
 # ---- pim-conform
-
-def script_module(name="pim-conform"):
-    """Returns a script of conform/ as a module."""
-    sys.dont_write_bytecode = True
-    loader = importlib.machinery.SourceFileLoader(name.replace("-", "_"), str(ROOT / "conform" / name))
-    made = importlib.util.module_from_spec(importlib.util.spec_from_loader(loader.name, loader))
-    loader.exec_module(made)
-    return made
-
-
-def parsed_as(module, *words):
-    """Returns the options as they are parsed, or the status and the last line of what is said."""
-    said = io.StringIO()
-    with changed(sys, argv=["script", *words]), contextlib.redirect_stderr(said):
-        try:
-            return vars(module.parsed())
-        except SystemExit as fault:
-            return fault.code, said.getvalue().splitlines()[-1].partition(": error: ")[2]
-
 
 class Parts(ConformCase):
     def test_lines_as_they_are_read(self):

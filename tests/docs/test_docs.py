@@ -15,7 +15,7 @@ import programs
 import version
 
 PAGES = [*sorted(ROOT.glob("*.md")), *sorted(ROOT.glob("[!.]*/*.md")),
-         *sorted(ROOT.glob("conform/mended/*.md"))]
+         *sorted(ROOT.glob("linux/mended/*.md"))]
 # A name that several crates have is that of pim_base.
 SPECS = {path.name: path.read_text()
          for path in sorted(ROOT.glob("crates/*/specs/*.antt"), key=lambda path: "pim_base" in path.parts)}

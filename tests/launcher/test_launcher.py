@@ -27,14 +27,12 @@ STUB_RATTLE = """#!/bin/sh
 while [ $# -gt 0 ]; do
     case $1 in
         --crate-name) name=$2 ;;
-        --jobs) jobs=$2 ;;
         --extern) [ "${2%%=*}" = std ] || [ -d "${2#*=}" ] || { echo "no ${2#*=}"; exit 1; } ;;
         -o) made=$2 ;;
     esac
     shift
 done
 echo "$name" >> "$CALLS"
-echo "$name $jobs $(nice)" >> "$CALLS.how"
 : > "$CALLS.$name"
 for other in $MEETS; do
     case " $MEETS " in *" $name "*) ;; *) continue ;; esac
@@ -211,11 +209,8 @@ class Launcher(Case):
     def test_a_build_names_its_crates_and_proves_side_by_side(self):
         self.outline.date(0, "crates.txt")
         said = self.outline.said_on_a_terminal()
-        named = [f"proving {name} ({at} of 5, about " for at, name in enumerate(STANDS_ON, 1)]
-        is_whole = all(name in said for name in named)
-        lines = len(re.findall(r"^pim: .* \d+ minutes? left\)\r$", said, re.M))
-        got = (is_whole, lines)
-        self.equal("a build names its crates on a terminal, with what is left", got, (True, 5))
+        named = [f"pim: proving {name} ({at} of 5)\r" for at, name in enumerate(STANDS_ON, 1)]
+        self.equal("a build names its crates on a terminal", (sorted(said.split("\n")),), (sorted(["", *named]),))
         kept = [self.outline.path(f"crates/{name}/out/rlib/statements/verdict").read_text() for name in STANDS_ON]
         wanted = [f"logic=proved functions=1 of={name}\n" for name in STANDS_ON]
         self.equal("a build keeps what the prover counted of each crate", (kept,), (wanted,))
@@ -241,7 +236,7 @@ class Launcher(Case):
         """While the program isn't built, a smaller one judges; it isn't built where the program is."""
         stands_on = ["pim_base", "pim_judging", "pim_text"]
         got = self.outline.run("judge", text="input\n")
-        named = [f"pim: proving {name} ({at} of 3, about " in got[2]
+        named = [f"pim: proving {name} ({at} of 3)\n" in got[2]
                  for at, name in enumerate(["pim_base", "pim_text", "pim_judging"], 1)]
         got = (*got[:2], named, got[3])
         name = "judge is done by a smaller program while the program isn't built"
@@ -323,19 +318,6 @@ class Launcher(Case):
             self.equal(f"{words} is for the program", (got[0], got[3]), (2, ["pim_base"]))
         full = ["sh", "-c", f"{self.outline.path('pim')} --help > /dev/full 2> /dev/null"]
         self.equal("help on a full disk", (subprocess.run(full).returncode,), (2,))
-
-    def test_a_crate_that_can_wait_has_half_the_processes(self):
-        """pim_text can wait: the way from pim_queue to the program is 110 seconds, from it only 30."""
-        seconds = {"pim_base": 10, "pim_queue": 90, "pim_text": 10, "pim_tool": 10, "pim": 10}
-        lines = [f"{name} {count}\n" for name, count in seconds.items()]
-        self.outline.path("launcher/seconds").write_text("".join(lines))
-        self.outline.date(0, "crates.txt")
-        self.outline.run("x")
-        lines = pathlib.Path(f"{self.outline.calls}.how").read_text().splitlines()
-        how = {name: (int(jobs), int(nice)) for name, jobs, nice in map(str.split, lines)}
-        jobs, nice = how["pim_queue"]
-        name = "a crate that can wait has half the processes, and a lower priority"
-        self.equal(name, (how["pim_text"],), (((jobs + 1) // 2, min(nice + 13, 19)),))
 
     def test_another_program_is_built_and_installed_by_its_name(self):
         """Another program is built of its own crates, and answers, says and installs by its own name."""
@@ -423,33 +405,9 @@ class Launcher(Case):
                     done = subprocess.run([tool, *words, file], capture_output=True, text=True)
                     self.check(f"{tool} lays out {file.stem}", done.stdout + done.stderr)
 
-    def test_each_crate_of_a_program_has_its_seconds(self):
-        """Each crate of a program has its line in launcher/seconds."""
+    def test_each_program_is_started_by_its_name(self):
         started = re.compile(r'^exec "\$here/launcher/start" (\S+) (\S+) "\$@"$', re.M)
         scripts = [path for path in ROOT.glob("pim*") if path.is_file() and not path.is_symlink()]
-        starts = {path.name: started.findall(path.read_text()) for path in scripts}
-        crates = re.findall(r"\bcrate=(\w+) ;;", (ROOT / "launcher/start").read_text())
-        for name, found in starts.items():
-            self.equal(f"./{name} starts {name}", ([start[0] for start in found],), ([name],))
-            crates += [crate for _, crate in found]
-        listed = set()
-        for crate in crates:
-            command = [ROOT / "launcher/crates", crate]
-            listed |= set(subprocess.run(command, capture_output=True, text=True).stdout.split())
-        lines = (ROOT / "launcher/seconds").read_text().splitlines()
-        counted = [line.split()[0] for line in lines if not line.startswith("#")]
-        name = "launcher/seconds has the crates of the programs"
-        self.equal(name, (sorted(counted),), (sorted(listed),))
-
-    def main(self):
-        with tempfile.TemporaryDirectory() as folder:
-            outline = Outline(folder)
-            parts = [self.test_a_build_that_fails_says_why, self.test_a_signal_ends_what_a_build_started, self.test_a_build_names_its_crates_and_proves_side_by_side, self.test_a_change_during_a_build_is_seen, self.test_one_of_two_builds_waits, self.test_what_is_proved_again_after_a_change]
-            parts[:0] = [self.test_help_and_version_are_printed_and_nothing_is_built, self.test_a_smaller_program_judges_while_the_program_is_not_built]
-            parts += [self.test_installs_the_program_and_its_page, self.test_another_program_is_built_and_installed_by_its_name, self.test_a_crate_that_can_wait_has_half_the_processes]
-            for part in parts:
-                part(outline)
-        self.test_each_crate_of_a_program_has_its_seconds()
-        self.test_the_launcher_and_libpim_have_the_version()
-        self.test_manual_pages_have_each_option_and_no_warning()
-        end()
+        for path in scripts:
+            got = [program for program, _ in started.findall(path.read_text())]
+            self.equal(f"./{path.name} starts {path.name}", (got,), ([path.name],))

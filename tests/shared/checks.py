@@ -1,4 +1,4 @@
-"""What the scripts beside this file share: lines of checks, runs that end, the program, and calls that fail."""
+"""What tests of several parts share: differences, runs that end, programs, and calls that fail."""
 import fcntl
 import functools
 import os
@@ -9,29 +9,12 @@ import sys
 import time
 
 ROOT = pathlib.Path(__file__).resolve().parents[2]
-COUNTS = {"ok": 0, "FAIL": 0, "skip": 0}
 # What takes longer hangs, on the busiest machine. A check waits for what it needs.
 SECONDS = 300
 # What nohup or a shell's & starts ignores these signals. What a check starts must not.
 for number in signal.SIGHUP, signal.SIGINT, signal.SIGQUIT:
     if signal.getsignal(number) == signal.SIG_IGN:
         signal.signal(number, lambda *_: None)
-
-
-def check(name, why=None):
-    """Prints the line of a check, which failed if there is a reason why."""
-    say("FAIL" if why else "ok", name, why)
-
-
-def skip(name, why):
-    """Prints the line of a check that can't be made on this machine."""
-    say("skip", name, why)
-
-
-def say(kind, name, why):
-    line = f"{kind} {name}: {why}" if why else f"{kind} {name}"
-    print(" | ".join(line.splitlines()), flush=True)
-    COUNTS[kind] += 1
 
 
 def difference(got, wanted):
@@ -44,12 +27,6 @@ def difference(got, wanted):
 def short(value):
     text = repr(value)
     return text if len(text) <= 100 else f"{text[:60]} .. {text[-30:]}"
-
-
-def end():
-    """Prints how many checks there were, and ends the script, with status 1 if one failed."""
-    print(f"{sum(COUNTS.values())} checks", flush=True)
-    sys.exit(1 if COUNTS["FAIL"] else 0)
 
 
 def answer(command, text=b"", seconds=SECONDS, **settings):

@@ -7,8 +7,10 @@ import subprocess
 import sys
 import threading
 
-from compare import HERE, Fault
+import compare
+from compare import Fault
 
+HERE = pathlib.Path(__file__).resolve().parent
 SKIPPED = 77
 QEMU = "qemu-system-x86_64"
 # What each tool is for, and its package in Debian.
@@ -42,10 +44,11 @@ def links_static():
 
 def programs(folder):
     """Builds what the guest executes, static. Returns the files."""
-    command = ["make", "-s", "-C", HERE, f"OUT={folder}", "CFLAGS=-O2 -static", "all", "programs"]
-    made = subprocess.run(command, capture_output=True, text=True)
-    if made.returncode:
-        raise Fault(f"the guest's programs can't be built: {made.stderr.strip()}")
+    for here in (compare.HERE, HERE):
+        command = ["make", "-s", "-C", here, f"OUT={folder}", "CFLAGS=-O2 -static"]
+        made = subprocess.run(command, capture_output=True, text=True)
+        if made.returncode:
+            raise Fault(f"the guest's programs can't be built: {made.stderr.strip()}")
     return [pathlib.Path(shutil.which("busybox")), *sorted(folder.iterdir())]
 
 

@@ -1,12 +1,12 @@
-"""conform/mended: in a text of its places, in kernels' sources."""
+"""linux/mended: in a text of its places, in kernels' sources."""
 import difflib
 import pathlib
 import random
 import re
 import shutil
 
-from tests.conform.cases import ConformCase, setUpModule
-from tests.shared.checks import ROOT, answer, program
+from tests.linux.cases import LINUX, LinuxCase, setUpModule
+from tests.shared.checks import answer, program
 
 import compare
 import fuzz
@@ -145,11 +145,11 @@ def code_of(text):
     return re.sub(r"(?m)^\s*$\n", "", re.sub(r"(?s)/\*.*?\*/", "", text))
 
 
-class Mended(ConformCase):
+class Mended(LinuxCase):
     def test_the_change_of_a_walk(self):
         """The first change is made in the walk, and where sched_setscheduler begins one."""
         file, api = self.folder / "rtmutex.c", self.folder / "rtmutex_api.c"
-        script_file = ROOT / "conform/mended/mend"
+        script_file = LINUX / "mended/mend"
         file.write_text(RTMUTEX)
         api.write_text(API)
         status, out, _ = answer([script_file, "--ways", "1", file])
@@ -165,7 +165,7 @@ class Mended(ConformCase):
 
     def test_each_change_is_made_where_it_belongs(self):
         """Each change is made where it belongs; where it doesn't fit, nothing is printed."""
-        file, script_file = self.folder / "rtmutex.c", ROOT / "conform/mended/mend"
+        file, script_file = self.folder / "rtmutex.c", LINUX / "mended/mend"
         file.write_text(RTMUTEX)
         for way, (gone, new) in MENDED.items():
             status, out, _ = answer([script_file, "--ways", way, file])
@@ -220,8 +220,8 @@ class Mended(ConformCase):
         wanted = []
         for file in files:
             shutil.copy(file, copy / "kernel/locking")
-            wanted.append(answer([ROOT / "conform/mended/mend", file])[1])
-        patch = ROOT / "conform/mended/linux-6.12.117.patch"
+            wanted.append(answer([LINUX / "mended/mend", file])[1])
+        patch = LINUX / "mended/linux-6.12.117.patch"
         status, _, err = answer(["patch", "-s", "-p1", "-d", copy, "-i", patch])
         got = [(copy / "kernel/locking" / file.name).read_bytes() for file in files]
         self.same("the patch for 6.12 makes the changes", (status, err, got), 0, b"", wanted)
@@ -239,7 +239,7 @@ class Mended(ConformCase):
             answer(command)
             for name, ways in ((names[0], "1"), (names[0], "2"), (names[0], "3"), (names[0], "1,2,3"),
                                (names[1], "1")):
-                status, out, err = answer([ROOT / "conform/mended/mend", "--ways", ways, self.folder / name])
+                status, out, err = answer([LINUX / "mended/mend", "--ways", ways, self.folder / name])
                 is_changed = out != (self.folder / name).read_bytes()
                 self.same(f"the change {ways} in {name}", (status, err, is_changed), 0, b"", True)
             if archive.name.startswith("linux-source-6.12."):

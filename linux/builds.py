@@ -1,12 +1,15 @@
 """Builds a kernel from a source of Linux, small enough for a guest without disk and network."""
 import os
+import pathlib
 import re
 import shutil
 import subprocess
 import sys
 from collections import namedtuple
 
-from compare import HERE, Fault
+from compare import Fault
+
+HERE = pathlib.Path(__file__).resolve().parent
 
 # What a build needs besides what guests.py names: each tool, and its package in Debian.
 TOOLS = {"ld": "binutils", "flex": "flex", "bison": "bison", "bc": "bc"}

@@ -2,7 +2,7 @@
  * mutex executes at 10. Threads at 20, 30 and 40 ask for it, the lowest first, so that each
  * preempts the owner and waits. The owner unlocks, the highest gets the mutex and unlocks, and so
  * on: with N of them N - 1 hand-overs leave waiters. Where a guest's clock counts instructions
- * (conform/kernels --count), a nanosecond is one. Needs the right to SCHED_FIFO. */
+ * (linux/kernels --count), a nanosecond is one. Needs the right to SCHED_FIFO. */
 #define _GNU_SOURCE
 #include <linux/futex.h>
 #include <pthread.h>

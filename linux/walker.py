@@ -37,7 +37,7 @@ def build(source, ways, folder):
             raise compare.Fault(f"{file} isn't there: it isn't the folder of a Linux source")
         is_changed = ways and name in builds.CHANGED
         (folder / name).write_bytes(builds.mended(file, ways) if is_changed else file.read_bytes())
-    here, program = compare.HERE / "walker", folder / "walker"
+    here, program = builds.HERE / "walker", folder / "walker"
     flags = [*FLAGS, "-include", here / "kernel.h", "-I", folder / "include", "-I", folder]
     common = (folder / "rtmutex_common.h").read_text()
     flags += ["-DHAS_WAKE_Q"] if re.search(r"start_proxy_lock\([^)]*wake_q", common) else []

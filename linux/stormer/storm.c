@@ -1,6 +1,6 @@
 /* storm [--seconds N] [--threads N] [--mutexes N] [--seed N]: threads under SCHED_FIFO lock and
  * unlock mutexes on every CPU that this process may use. Now and then all stop where they are, and
- * the state is printed: who owns, who waits, and each priority in force. conform/storm calls it.
+ * the state is printed: who owns, who waits, and each priority in force. linux/storm calls it.
  *
  * The mutexes are INHERIT, which a thread locks in ascending order, so that none deadlocks; and two
  * are PROTECT, which it only tries to lock, as glibc raises who waits for one. Some locks time out,

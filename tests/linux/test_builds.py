@@ -1,26 +1,23 @@
-"""conform/builds.py and kernels --build, where no kernel is built.
+"""linux/builds.py and kernels --build, where no kernel is built.
 
 A shell script stands for make: it configures what it is asked for, and its kernel is the file that
 mended/mend changes.
 """
 import os
 import shutil
-import signal
-import subprocess
 import sys
 
-from tests.conform.cases import ConformCase, setUpModule
-from tests.shared.checks import ROOT, answer, ended, is_gone, until, program
-from tests.conform.test_kernels import first_on_path, guest_output, number_in, with_tools
-from tests.conform.test_mended import API, RTMUTEX, TAKEN
-from tests.conform.test_parts import changed, fault_of, script
+from tests.conform.cases import SET, changed, fault_of, script
+from tests.linux.cases import LINUX, LinuxCase, first_on_path, guest_output, setUpModule, with_tools
+from tests.linux.test_mended import API, RTMUTEX, TAKEN
+from tests.shared.checks import answer, program
 
 import builds
 import compare
 import guests
 
 PLAIN = builds.Kind(None, False, False, False, None)
-KERNELS = ROOT / "conform/kernels"
+KERNELS = LINUX / "kernels"
 # What stands for make, where the guest's programs aren't made: O= is its third argument.
 MAKE = f"""case "$*" in *O=*) ;; *) exec {shutil.which("make")} "$@" ;; esac
 printf '%s\\n' "$*" >> ASKED
@@ -62,11 +59,11 @@ def contents(folder):
 
 def guest_of_build(release):
     """Returns what a guest prints: the set, as it is stored."""
-    texts = sorted((ROOT / "conform/set").glob("*.pim"))
+    texts = sorted(SET.glob("*.pim"))
     return guest_output(release, (), {path.stem: compare.Text(path.read_text()) for path in texts})
 
 
-class Builds(ConformCase):
+class Builds(LinuxCase):
     def test_a_tree_of_links_has_the_files_of_the_source(self):
         """A tree of links has the source's files, and the changed ones of its own."""
         source, tree = source_in(self.folder), self.folder / "tree"
@@ -184,22 +181,11 @@ class Builds(ConformCase):
         return self.same("nothing of a build is left behind", left, [])
 
     def test_a_signal_ends_make(self):
-        """A signal ends make, and leaves nothing behind."""
+        """A signal ends make."""
         if not guests.links_static() or builds.missing() or not shutil.which("setpriv"):
             return self.skip("a build is ended by a signal", "it lacks a tool")
         environment, source = with_tools(self.folder), source_in(self.folder)
         real = f'case "$*" in *O=*) ;; *) exec {shutil.which("make")} "$@" ;; esac'
-        script(self.folder / "tools", "make", real, f"echo $$ > {self.folder}/made", "exec sleep 1000")
+        script(self.folder / "tools", "make", real, f"echo $$ > {self.folder}/begun", "exec sleep 1000")
         script(self.folder / "tools", guests.QEMU, "exit 1")
-        for number, status in ((signal.SIGTERM, 143), (signal.SIGHUP, 129), (signal.SIGKILL, -9)):
-            (self.folder / "made").unlink(missing_ok=True)
-            command = [KERNELS, "--random", "0", "--pim", program(), "--build", source]
-            with subprocess.Popen(command, env=environment, stderr=subprocess.DEVNULL) as child:
-                maker = until(lambda: number_in(self.folder / "made"))
-                child.send_signal(number)
-                got = ended(child)
-                is_ended = until(lambda: is_gone(maker))
-            self.same(f"a build is ended by {number.name}", (got, is_ended), status, True)
-            if number != signal.SIGKILL:
-                left = list((self.folder / "tmp").iterdir())
-                self.same(f"nothing of a build is left by {number.name}", left, [])
+        return self.ends_by_signals("a build", environment, "--build", source)

@@ -1,9 +1,9 @@
-"""conform/storm where no thread needs a right: stops by hand."""
+"""linux/storm where no thread needs a right: stops by hand."""
 import os
 
-from tests.conform.cases import ConformCase, setUpModule
-from tests.shared.checks import ROOT, answer, program
-from tests.conform.test_parts import parsed_as, script_module
+from tests.linux.cases import LINUX, LinuxCase, setUpModule
+from tests.shared.checks import answer, program
+from tests.conform.cases import parsed_as, script_module
 
 import storms
 
@@ -60,12 +60,12 @@ WRONG = {"--threads 1": "--threads is from 2 to 64", "--mutexes 65": "--mutexes 
          "--cpus x": "argument --cpus: 'x' isn't a list of CPUs, as 0,1"}
 
 
-class Storm(ConformCase):
+class Storm(LinuxCase):
     def test_each_wrong_priority_of_a_stop_is_told(self):
-        """What conform/storm says of stops: each wrong priority, with the smallest text."""
+        """What linux/storm says of stops: each wrong priority, with the smallest text."""
         stored = self.folder / "stored"
         stored.write_text(STORM)
-        command = [ROOT / "conform/storm", "--pim", program(), "--from", stored]
+        command = [LINUX / "storm", "--pim", program(), "--from", stored]
         self.same("a storm with wrong priorities", answer(command), 1, SAID.encode(), b"")
         right = STORM.replace("at 30 owns 1", "at 60 owns 1").replace("at 55", "at 5")
         right = right.replace("at 40\nstopped", "at 50\nstopped")
@@ -95,17 +95,17 @@ class Storm(ConformCase):
         self.same("the text of a stop", got, text, {3: 1, 7: 2})
 
     def test_options(self):
-        """What conform/storm takes, and what it doesn't; and what its program refuses."""
-        module, cpus = script_module("storm"), sorted(os.sched_getaffinity(0))[-2:]
+        """What linux/storm takes, and what it doesn't; and what its program refuses."""
+        module, cpus = script_module("linux/storm"), sorted(os.sched_getaffinity(0))[-2:]
         usual = {"seconds": 60, "cpus": cpus, "threads": 40, "mutexes": 30, "seed": 1, "pim": None,
                  "stored": None}
         self.same("storm: what isn't given", parsed_as(module), usual)
         self.same("storm: CPUs", parsed_as(module, "--cpus", f"{cpus[0]},{cpus[0]}")["cpus"], cpus[:1])
         for words, wanted in WRONG.items():
             self.same(f"storm: {words}", parsed_as(module, *words.split()), 2, wanted)
-        status, out, _ = answer([ROOT / "conform/storm", "--help"])
+        status, out, _ = answer([LINUX / "storm", "--help"])
         self.same("storm --help", (status, b"'ulimit -r 99'" in out, b"Status: 0" in out), 0, True, True)
         for words in ("--threads 1", "--mutexes 65", "--seconds 0", "--seed x"):
-            status, out, err = answer([ROOT / "conform/out/storm", *words.split()])
+            status, out, err = answer([LINUX / "out/storm", *words.split()])
             said = b"isn't a number from " in err
             self.same(f"the threads' program: {words}", (status, out, said), 2, b"", True)

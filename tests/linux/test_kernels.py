@@ -1,4 +1,4 @@
-"""conform/kernels where no kernel is booted.
+"""linux/kernels where no kernel is booted.
 
 Shell scripts stand for apt-get and qemu. What a guest prints is made of the stored performances of
 the set and of the model's of random texts, or written by hand.
@@ -8,24 +8,21 @@ import io
 import os
 import pathlib
 import shutil
-import signal
 import subprocess
 import sys
 import time
 import types
 
-from tests.conform.cases import ConformCase, setUpModule
-from tests.shared.checks import ROOT, SECONDS, answer, ended, is_gone, until, program
-from tests.conform.test_parts import fault_of, parsed_as, script, script_module
-from tests.conform.test_storm import STORM
+from tests.conform.cases import SET, fault_of, parsed_as, script, script_module
+from tests.linux.cases import LINUX, STORED, LinuxCase, first_on_path, guest_output, setUpModule, with_tools
+from tests.linux.test_storm import STORM
+from tests.shared.checks import SECONDS, answer, program
 
 import compare
 import guests
 import results
-from walk import Walk
 
-STORED = ROOT / "conform/performed"
-RANDOM = 30
+KERNELS, RANDOM = LINUX / "kernels", 30
 
 
 # ---- guests.py
@@ -44,17 +41,6 @@ def members(archive):
     return found
 
 
-@contextlib.contextmanager
-def first_on_path(folder):
-    """Lets commands be found in the folder before all others, or there alone."""
-    kept = os.environ["PATH"]
-    os.environ["PATH"] = f"{folder}:{kept}" if folder.is_dir() else str(folder)
-    try:
-        yield
-    finally:
-        os.environ["PATH"] = kept
-
-
 def make_package(folder, count):
     """Makes a Debian package, with so many kernels."""
     tree = folder / f"tree{count}"
@@ -70,31 +56,8 @@ def make_package(folder, count):
 
 # ---- results.py
 
-def guest_output(release, habits, texts, changes=()):
-    """Returns what a guest prints, in which the model performs random texts with these habits."""
-    lines = [f"=== system\nLinux {release} #1 SMP PREEMPT Debian 9.1.2-1 (2026)"]
-    for name, text in texts.items():
-        lines.append(f"=== text {name}")
-        if not name.startswith("random"):
-            lines.append((STORED / f"{name}.performed").read_text().rstrip("\n"))
-            continue
-        lines.append(f"Linux {release}, glibc 2.36, CPU 1")
-        for number, done in enumerate(Walk(text, frozenset(habits)).run(), 1):
-            lines.append(f"{number} {done.reply}")
-            lines += [f"  task {t} at {priority}" for t, priority in done.changes.items()]
-        lines.append(f"performed {len(text.steps)}")
-    lines += ["=== program lost_boost", "the thread at 40 waited 405 ms more",
-              "the thread at 40 waited 5 ms more", "=== program stale_boost",
-              "SCHED_FIFO isn't permitted", "=== messages", "=== end"]
-    out = "\n".join(lines) + "\n"
-    for old, new in changes:
-        assert out.count(old) > 0, old
-        out = out.replace(old, new, 1)
-    return out
-
-
 def texts_and_reports(pim):
-    module = script_module("kernels")
+    module = script_module("linux/kernels")
     given = types.SimpleNamespace(random=RANDOM, seed=1)
     texts = {name: compare.Text(source) for name, source in module.texts_of(given).items()}
     return texts, {name: compare.reported(pim, text) for name, text in texts.items()}
@@ -129,22 +92,6 @@ CHANGES = {
 }
 
 
-def number_in(file):
-    """Returns the number that a file has, or None if it has none yet."""
-    text = file.read_text() if file.exists() else ""
-    return int(text) if text.endswith("\n") else None
-
-
-def with_tools(folder):
-    """Returns an environment in which the folder's tools are found, and files are made in it."""
-    for name in ("tools", "tmp"):
-        (folder / name).mkdir()
-    (folder / "image").write_text("kernel")
-    script(folder / "tools", "busybox", "")
-    path = f"{folder / 'tools'}:{os.environ['PATH']}"
-    return {**os.environ, "PATH": path, "TMPDIR": str(folder / "tmp")}
-
-
 # ---- the command line
 
 # What can't be given together, or isn't in range.
@@ -165,13 +112,13 @@ WRONG = {"": TOGETHER, "a --from f": TOGETHER, "--from f --keep k": TOGETHER,
             for words in ("1,4", "12", "1,")}}
 
 
-class Kernels(ConformCase):
+class Kernels(LinuxCase):
     def test_the_initramfs(self):
         """The initramfs has the guest's first process, the programs and the texts."""
         program = script(self.folder, "perform", "exit 0")
         archive = guests.gzip.decompress(guests.initramfs([program], {"a": "pim 1\n", "bb": "pim 2\n"}))
         found = {name: rest for name, *rest in members(archive)}
-        init, none = (ROOT / "conform/guest/init").read_bytes(), (0, 0)
+        init, none = (LINUX / "guest/init").read_bytes(), (0, 0)
         wanted = {**{name: [0o40755, none, b""] for name in ("bin", "dev", "texts")},
                   "dev/console": [0o20600, (5, 1), b""], "init": [0o100755, none, init],
                   "bin/perform": [0o100755, none, program.read_bytes()],
@@ -285,7 +232,7 @@ class Kernels(ConformCase):
         for wanted in ("a static busybox (busybox-static)", "a static libc (libc6-dev)"):
             self.check(f"missing: {wanted}", None if wanted in lacks else str(lacks))
         environment = {**os.environ, "PATH": str(place)}
-        status, out, err = answer([sys.executable, ROOT / "conform/kernels", image], env=environment)
+        status, out, err = answer([sys.executable, KERNELS, image], env=environment)
         is_said = b"it needs qemu-system-x86_64 (qemu-system-x86)" in err
         self.same("without qemu it is skipped", (status, out, is_said), 77, b"", True)
 
@@ -346,24 +293,23 @@ class Kernels(ConformCase):
 
     def test_the_table_of_a_guest_that_was_booted(self):
         """The table of a guest that was booted, with 20 random texts."""
-        command = [ROOT / "conform/kernels", "--random", "20", "--pim", program(), "--from", STORED]
+        command = [KERNELS, "--random", "20", "--pim", program(), "--from", STORED]
         self.same("the table of a stored run", answer(command), 0, (STORED / "kernels.table").read_bytes(), b"")
-        folder = ROOT / "conform/set"
-        said = f"kernels: {folder} has no RELEASE.out, as --keep stores it\n"
-        self.same("a folder without a stored run", answer([*command, "--from", folder]), 2, b"", said.encode())
+        said = f"kernels: {SET} has no RELEASE.out, as --keep stores it\n"
+        self.same("a folder without a stored run", answer([*command, "--from", SET]), 2, b"", said.encode())
 
     def test_from_the_command_line_to_the_table(self):
         """A run from the command line to the table, its stored output, and a guest that ends early."""
         if not guests.links_static():
             return self.skip("a run with a guest", "there is no static libc")
-        module = script_module("kernels")
+        module = script_module("linux/kernels")
         sources = module.texts_of(types.SimpleNamespace(random=2, seed=3))
         texts = {name: compare.Text(source) for name, source in sources.items()}
         (self.folder / "guest").write_text(guest_output("9.1.2", (), texts))
         environment = with_tools(self.folder)
         tools, keep, image = self.folder / "tools", self.folder / "keep", self.folder / "image"
         script(tools, guests.QEMU, f'cat {self.folder}/guest; echo "$*" >> {self.folder}/asked')
-        command = [sys.executable, ROOT / "conform/kernels", "--random", "2", "--seed", "3", "--pim"]
+        command = [sys.executable, KERNELS, "--random", "2", "--seed", "3", "--pim"]
         command.append(program())
         more = ["--keep", keep, "--storm", "7", "--run", "true", "--append", "some words", image]
         status, out, err = answer([*command, *more], env=environment)
@@ -395,26 +341,16 @@ class Kernels(ConformCase):
         return self.same("nothing is left behind", list((self.folder / "tmp").iterdir()), [])
 
     def test_a_signal_ends_the_guest(self):
-        """A signal ends the guest, and leaves nothing behind; after SIGKILL its folder is left."""
+        """A signal ends the guest."""
         if not guests.links_static() or not shutil.which("setpriv"):
             return self.skip("a guest is ended by a signal", "there is no static libc, or no setpriv")
-        environment, image = with_tools(self.folder), self.folder / "image"
-        script(self.folder / "tools", guests.QEMU, f"echo $$ > {self.folder}/guest", "exec sleep 1000")
-        for number, status in ((signal.SIGTERM, 143), (signal.SIGHUP, 129), (signal.SIGKILL, -9)):
-            (self.folder / "guest").unlink(missing_ok=True)
-            command = [ROOT / "conform/kernels", "--random", "0", "--pim", program(), image]
-            with subprocess.Popen(command, env=environment, stderr=subprocess.DEVNULL) as child:
-                guest = until(lambda: number_in(self.folder / "guest"))
-                child.send_signal(number)
-                got = ended(child)
-                is_ended = until(lambda: is_gone(guest))
-            self.same(f"ended by {number.name}", (got, is_ended), status, True)
-            if number != signal.SIGKILL:
-                self.same(f"nothing is left by {number.name}", list((self.folder / "tmp").iterdir()), [])
+        environment = with_tools(self.folder)
+        script(self.folder / "tools", guests.QEMU, f"echo $$ > {self.folder}/begun", "exec sleep 1000")
+        return self.ends_by_signals("a guest", environment, self.folder / "image")
 
     def test_options(self):
-        """What conform/kernels takes, and what it doesn't."""
-        kernels = script_module("kernels")
+        """What linux/kernels takes, and what it doesn't."""
+        kernels = script_module("linux/kernels")
         usual = {"kernels": ["a", "b"], "random": 300, "seed": 1, "smp": 2, "append": "", "storm": 5,
                  "keep": None, "stored": None, "kvm": False, "seconds": 1800, "pim": None, "run": None,
                  "count": False, "build": None, "mended": None, "rt": False, "debug": False,
@@ -425,5 +361,5 @@ class Kernels(ConformCase):
                   [[], pathlib.Path("s"), "13", True, True])
         for words, wanted in WRONG.items():
             self.same(f"kernels: {words or 'nothing'}", parsed_as(kernels, *words.split()), 2, wanted)
-        status, out, _ = answer([ROOT / "conform/kernels", "--help"])
+        status, out, _ = answer([KERNELS, "--help"])
         self.same("kernels --help", (status, b"linux-image-" in out, b"Status: 0" in out), 0, True, True)

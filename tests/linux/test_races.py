@@ -1,8 +1,8 @@
-"""conform/races.py and conform/race: orders of steps, in the model."""
+"""linux/races.py and linux/race: orders of steps, in the model."""
 import random
 
-from tests.conform.cases import ConformCase, setUpModule
-from tests.shared.checks import ROOT, answer, program
+from tests.linux.cases import LINUX, LinuxCase, setUpModule
+from tests.shared.checks import answer, program
 
 import compare
 import fuzz
@@ -35,7 +35,7 @@ def last(model, s, actors):
         _, s, actors = found[0]
 
 
-class Races(ConformCase):
+class Races(LinuxCase):
     def test_each_part_of_the_change_is_needed(self):
         """Each part of the first change is needed in its schedule, and with all no end is wrong."""
         for name, schedule in races.SCHEDULES.items():
@@ -88,27 +88,27 @@ class Races(ConformCase):
 
     def test_random_orders(self):
         """Random texts with calls behind them have no wrong end with the changes, and some without."""
-        status, out, _ = answer([ROOT / "conform/race", "--random", "3", "--seed", "5"])
+        status, out, _ = answer([LINUX / "race", "--random", "3", "--seed", "5"])
         self.same("the table of orders", (status, out.decode()), 0, TABLE)
 
     def test_the_command_line(self):
-        """What conform/race takes, and prints."""
+        """What linux/race takes, and prints."""
         for name, (task, real, should) in WRONG.items():
-            status, out, _ = answer([ROOT / "conform/race", "--steps", name])
+            status, out, _ = answer([LINUX / "race", "--steps", name])
             end = out.decode().splitlines()[-1]
             self.same(f"the steps of {name}", (status, end), 0,
                       f"task {task} executes at {real}, should at {should}")
-        out = answer([ROOT / "conform/race", "--steps", "inline"])[1].decode()
+        out = answer([LINUX / "race", "--steps", "inline"])[1].decode()
         self.same("the last steps of inline", out.split("\n")[-4:], ENDING)
-        status, out, _ = answer([ROOT / "conform/race", "--help"])
+        status, out, _ = answer([LINUX / "race", "--help"])
         self.same("race --help", (status, b"Status: 0" in out, b"released" in out), 0, True, True)
         for words in (["--random", "-1"], ["--most", "0"], ["--steps", "none"], ["x"]):
-            self.same(f"race: {' '.join(words)}", answer([ROOT / "conform/race", *words])[0], 2)
+            self.same(f"race: {' '.join(words)}", answer([LINUX / "race", *words])[0], 2)
 
     def test_what_a_walker_is_given(self):
         """What the walker of a source is given; and a folder that isn't one of a source.
 
-        conform_mended.py builds it, where a source is installed.
+        tests.linux.test_mended builds it, where a source is installed.
         """
         text = compare.Text("pim 1\ntask 1 10\ntask 2 20\nmutex 1 inherit\n"
                         "1 lock 1\n2 lock 1\n2 base 1 5\n1 release\n")
@@ -118,7 +118,7 @@ class Races(ConformCase):
         self.same("a walker's input", walker.given(text, steps), f"{wanted}0\n")
         got = walker.given(text, steps, ["1 base 2 30; 1 base 2 20", "2 cancel 2"])
         self.same("its input with calls", got, f"{wanted}2\n2\n4 2 30\n4 2 20\n1\n3 2 0\n")
-        status, out, err = answer([ROOT / "conform/race", "--source", self.folder])
+        status, out, err = answer([LINUX / "race", "--source", self.folder])
         said = "rtmutex.c isn't there: it isn't the folder of a Linux source\n"
         self.same("another folder", (status, out, err.decode()), 2, b"",
                   f"race: {self.folder}/kernel/locking/{said}")

@@ -1,5 +1,5 @@
 /* walker [SWITCHES | ORDERS SEED]: executes the rt-mutex of a Linux source in user space. It is
- * linked with kernel/locking/rtmutex_api.c; kernel.h has what that needs. conform/race builds it.
+ * linked with kernel/locking/rtmutex_api.c; kernel.h has what that needs. linux/race builds it.
  *
  * Actors perform calls, one for each task and one for each CPU that sets priorities. One executes
  * at a time. Another may go on before each lock that an actor takes, and between the reading and
