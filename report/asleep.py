@@ -26,9 +26,11 @@ class Sleeps:
     def read(self, data):
         now, waiting = 0, set()
         for time, thread, asleep, wakes, waits in SAYS.findall(data):
-            now = max(now, int(time))
+            time = int(time)
+            now = time if time > now else now
             if wakes:
-                self.end(thread, now)
+                if thread in self.since:
+                    self.end(thread, now)
                 continue
             self.since.pop(thread, None)
             if not thread:  # it is a `lost`
@@ -41,7 +43,7 @@ class Sleeps:
                 waiting.discard(thread)
 
     def end(self, thread, now):
-        begin = self.since.pop(thread, now)
+        begin = self.since.pop(thread)
         if begin < now:
             begins, ends = self.of.setdefault(int(thread), ([], []))
             begins.append(begin)

@@ -5,7 +5,7 @@ when a row names them. It judges nothing: pim-findings has said that the text is
 """
 import re
 from bisect import bisect_left, bisect_right
-from collections import namedtuple
+from collections import defaultdict, namedtuple
 
 Thread = namedtuple("Thread", "number level name")
 Mutex = namedtuple("Mutex", "number protocol ceiling recursive name place")
@@ -34,7 +34,7 @@ class Facts:
             self.lines.pop()
         self.threads, self.mutexes, self.objects, self.unseen = {}, {}, {}, []
         self.levels, self.ceilings, self.lost, declared = {}, {}, [], 0
-        self.owners, self.clocks = None, None
+        self.of_mutexes, self.owners, self.clocks = None, {}, None
         for word, declare in (("thread", self.thread), ("mutex", self.mutex),
                               ("object", self.object), ("unseen", self.is_unseen)):
             for _, line in self.lines_with(f"\n{word} ".encode()):
@@ -144,7 +144,8 @@ class Facts:
                 time = int(text.partition(b" ")[0]) if text[:1] <= b"9" else now
                 if time < now:
                     self.clocks[number] = now
-                now = max(now, time)
+                else:
+                    now = time
         return self.clocks.get(line) or self.time(line)
 
     def word(self, line):
@@ -170,27 +171,33 @@ class Facts:
 
     # ---- owners
 
-    def read_owners(self):
-        """Returns by mutex the lines that change its owner, and the new owners. 0 is none."""
-        found, times = {}, {}
+    def lines_of_mutexes(self):
+        """Returns by mutex, as a word, the numbers of the lines that can change its owner."""
+        found = defaultdict(list)
         for number, line in enumerate(self.lines, 1):
             words = line.split(b" ", 4)
-            if len(words) < 4 or words[2] not in OF_OWNERS or line[:1] > b"9":
-                continue
-            mutex = words[3]
-            before = times.get(mutex, 0)
-            times[mutex] = after = before + (-1 if words[2] == b"released" else 1)
-            if not before or not after:
-                lines, owners = found.get(mutex) or found.setdefault(mutex, ([0], [0]))
+            if len(words) > 3 and words[2] in OF_OWNERS and line[:1] <= b"9":
+                found[words[3]].append(number)
+        return found
+
+    def read_owners(self, mutex):
+        """Returns the lines that change the owner of a mutex, and the new owners. 0 is none."""
+        lines, owners, times = [0], [0], 0
+        for number in self.of_mutexes.get(b"%d" % mutex, ()):
+            words = self.lines[number - 1].split(b" ", 3)
+            before, times = times, times + (-1 if words[2] == b"released" else 1)
+            if not before or not times:
                 lines.append(number)
-                owners.append(after and int(words[1]))
-        return {int(mutex): changes for mutex, changes in found.items()}
+                owners.append(times and int(words[1]))
+        return lines, owners
 
     def owners_of(self, mutex):
         """They are read once, if they are needed."""
-        if self.owners is None:
-            self.owners = self.read_owners()
-        return self.owners.get(mutex, ([0], [0]))
+        if self.of_mutexes is None:
+            self.of_mutexes = self.lines_of_mutexes()
+        if mutex not in self.owners:
+            self.owners[mutex] = self.read_owners(mutex)
+        return self.owners[mutex]
 
     def owner(self, mutex, line):
         """Returns the thread that owns a mutex after a line, or 0."""

@@ -18,12 +18,14 @@ class Findings:
         waits = MutexWaits(recording)
         self.others = OtherFindings(recording, waits.dead)
         self.all = [*waits.findings(), *self.others.findings()]
-        order = list(KINDS)
-        self.all.sort(key=lambda one: (order.index(one.kind), -one.worst,
-                                       -max(level for _, level in one.who)))
+        self.all.sort(key=lambda one: (-one.worst, -max(level for _, level in one.who)))
+        self.of_kind = {kind: [] for kind in KINDS}
+        for one in self.all:
+            self.of_kind[one.kind].append(one)
+        self.all = self.of(*KINDS)
 
     def of(self, *kinds):
-        return [one for one in self.all if one.kind in kinds]
+        return [one for kind in kinds for one in self.of_kind[kind]]
 
     @property
     def lacks_much(self):

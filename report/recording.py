@@ -1,5 +1,7 @@
 """A recording: its facts, the rows that follow, and what both are called."""
+import functools
 from bisect import bisect_left, bisect_right
+from graphlib import CycleError, TopologicalSorter
 from heapq import nlargest
 
 from choice import Choice
@@ -34,8 +36,10 @@ class Recording:
 
     def level_of(self, wait):
         """Returns the highest level that a thread had while it waited for a mutex."""
-        changes = self.facts.levels.get(wait.thread, ())
-        level, at = wait.level, bisect_right(changes, (wait.line, 101))
+        changes, level = self.facts.levels.get(wait.thread), wait.level
+        if not changes:
+            return level
+        at = bisect_right(changes, (wait.line, 101))
         while at < len(changes) and not 0 < wait.until < changes[at][0]:
             level, at = max(level, changes[at][1]), at + 1
         return level
@@ -54,8 +58,22 @@ class Recording:
         later = waits[bisect_right(lines, wait.line):][:1]
         return not any((one.mutex, one.begin) == (wait.mutex, wait.end) for one in later)
 
+    @functools.cached_property
+    def has_cycle(self):
+        """Returns whether mutexes were asked for in a cycle: each by an owner of the one before."""
+        before = {}
+        for nest in self.all_rows.nests:
+            before.setdefault(nest.inner, set()).add(nest.outer)
+        try:
+            TopologicalSorter(before).prepare()
+        except CycleError:
+            return True
+        return False
+
     def cycle_before(self, wait):
         """Returns the waits of the deadlock that the end of a wait ended, that one first, or []."""
+        if wait.owner != wait.thread and not self.has_cycle:
+            return []
         line, cycle = wait.until - 1, [wait]
         while len(cycle) < LONGEST:
             owner = self.facts.owner(cycle[-1].mutex, line)

@@ -21,7 +21,7 @@ class Wait:
         (self.line, self.until, self.thread, self.mutex, self.begin, self.lasted, self.level,
          self.gets, self.owner, self.owner_level, self.taken, self.inverted, self.lower,
          self.stalled) = numbers
-        self.parts, self.stalls, self.meanwhile = [], [], []
+        self.parts = self.stalls = self.meanwhile = ()
 
     @property
     def end(self):
@@ -69,26 +69,24 @@ class Rows:
     @classmethod
     def read(cls, text):
         rows = cls()
-        kinds = {"blocked": (Blocked, rows.blocked), "ran": (Ran, rows.ran),
-                 "section": (Section, rows.sections), "nests": (Nest, rows.nests)}
-        parts = {"inverted": (Part, "parts"), "stalled": (Stall, "stalls"),
-                 "meanwhile": (Meanwhile, "meanwhile")}
-        wait = None
+        kinds = {"blocked": (Blocked._make, rows.blocked), "ran": (Ran._make, rows.ran),
+                 "section": (Section._make, rows.sections), "nests": (Nest._make, rows.nests),
+                 "wait": (Wait, rows.waits), "deadlock": (list, rows.deadlocks)}
+        parts = {"inverted": (Part._make, "parts"), "stalled": (Stall._make, "stalls"),
+                 "meanwhile": (Meanwhile._make, "meanwhile")}
         for line in text.splitlines():
-            word, _, rest = line.partition(" ")
-            numbers = map(int, rest.split())
-            if word in parts:
-                kind, name = parts[word]
+            word, *numbers = line.split(" ")
+            numbers = map(int, numbers)
+            if word in kinds:
+                make, into = kinds[word]
+                into.append(make(numbers))
+            elif word in parts:
+                make, name = parts[word]
                 next(numbers)  # the line of the wait, which is the last one
-                getattr(wait, name).append(kind._make(numbers))
-            elif word == "wait":
-                wait = Wait(numbers)
-                rows.waits.append(wait)
-            elif word in kinds:
-                kind, into = kinds[word]
-                into.append(kind._make(numbers))
-            elif word == "deadlock":
-                rows.deadlocks.append(list(numbers))
+                wait = rows.waits[-1]
+                if not getattr(wait, name):
+                    setattr(wait, name, [])
+                getattr(wait, name).append(make(numbers))
             else:
                 rows.lines, rows.ended, *_ = numbers
         return rows
