@@ -585,6 +585,28 @@ static void put_unknown(struct order *order, uint32_t known, const char *what) {
     text_end(order->text);
 }
 
+static bool is_loaded(const struct log *log, const char *file) {
+    for (uint32_t i = 0; i < log->module_count; i++) {
+        const struct name *name = &log->names[log->modules[i].name];
+        if (name->length == strlen(file) && memcmp(name->bytes, file, name->length) == 0)
+            return true;
+    }
+    return false;
+}
+
+/* Writes a line for each library whose waits are futexes of its own. */
+static void declare_libraries(struct order *order) {
+    static const char *const libraries[] = { "libgomp.so.1", "libiomp5.so", "libjack.so.0",
+                                             "libomp.so", "libomp.so.5" };
+    for (size_t i = 0; i < sizeof libraries / sizeof *libraries; i++) {
+        if (!is_loaded(order->log, libraries[i])) continue;
+        text_begin(order->text);
+        text_word(order->text, "unseen waits by futexes of ");
+        text_word(order->text, libraries[i]);
+        text_end(order->text);
+    }
+}
+
 static void declare_unseen(struct order *order) {
     const struct header *header = &order->log->header;
     put_unknown(order, KNOWN_KIND, "unseen kinds of mutexes");
@@ -596,6 +618,7 @@ static void declare_unseen(struct order *order) {
                " early records that were dropped for later ones");
     put_unseen(order, header->unplaced, " record for whose place the log had no room",
                " records for whose places the log had no room");
+    declare_libraries(order);
     if (!order->kernel->is_there || order->kernel->is_whole) return;
     text_begin(order->text);
     text_word(order->text, "unseen the rest of the kernel's events, which aren't whole");

@@ -25,6 +25,7 @@ SAID_BY = {log_facts.WAITS: reader.REQUEST, log_facts.GRANTED: reader.GRANTED, l
 KINDS = {2: "rwlock", 3: "rwlock", 6: "condition"}
 NUMBERED, UNNUMBERED = (re.compile(start + rb" 0x([0-9a-f]{1,16}) (.*)", re.DOTALL)
                         for start in (rb"([1-9][0-9]{0,3})", rb"(-)"))
+LIBRARIES = "libgomp.so.1", "libiomp5.so", "libjack.so.0", "libomp.so", "libomp.so.5"  # which call futexes themselves
 UNSEEN = (("left_out", "call", "that the recorder couldn't see whole"),
           ("dropped", "early record", "that {} dropped for later ones"),
           ("unplaced", "record", "for whose {} the log had no room"))
@@ -333,6 +334,8 @@ class Writer:
             if count:
                 said = {"dropped": "was" if count == 1 else "were", "unplaced": "place" if count == 1 else "places"}
                 self.lines.append(f"unseen {count} {what}{'s' if count > 1 else ''} {why.format(said.get(field))}")
+        loaded = {name[:NAME_BYTES] for _, _, name, _ in self.names.modules}
+        self.lines += [f"unseen waits by futexes of {name}" for name in LIBRARIES if name.encode() in loaded]
         if self.kernel and not self.kernel.is_whole:
             self.lines.append("unseen the rest of the kernel's events, which aren't whole")
 

@@ -149,6 +149,14 @@ BY_HAND = {
         @3 1 MODULE 0x1000 text /lib/second
         @10 1 GRANTED 0x1500 none
         """, "10 701 granted 1"),
+    "libraries that call futexes themselves, each said once": ("""
+        @1 1 THREAD 0x10 fifo 10
+        @2 1 MODULE 0x1000 text /lib/libomp.so.5
+        @2 1 MODULE 0x2000 text /lib/libgomp.so.1
+        @3 2 THREAD 0x20 fifo 10
+        @3 2 MODULE 0x2000 text /usr/lib/libgomp.so.1
+        @4 1 MODULE 0x3000 text /lib/libiomp5.so.2
+        """, "unseen waits by futexes of libgomp.so.1, unseen waits by futexes of libomp.so.5"),
     "a wait for an own mutex": ("""
         @1 1 THREAD 0x10 fifo 10
         @10 1 GRANTED 0x500 none
