@@ -2,7 +2,7 @@
 
 Such a wait is bounded by its time-out, also if nothing raised the owner, and also in a deadlock.
 """
-from finding import findings_of
+from finding import TOLERANCE, findings_of
 from words import duration, moment
 
 
@@ -42,6 +42,7 @@ class GaveUp:
             found.by = self.waits.runners([wait for wait in group if wait.parts])
             found.why = self.waits.reason(worst)
             found.advice = self.waits.advice(group)
+        elif worst.stalled or self.waits.asleep.during(worst) > TOLERANCE:
+            found.why, found.advice = self.waits.idle(worst)
         else:
-            found.why = (self.waits.held(worst) if worst.stalls else
-                         self.waits.bound(worst) if worst.lower else self.waits.plainly(worst))
+            found.why = self.waits.bound(worst) if worst.lower else self.waits.plainly(worst)

@@ -30,7 +30,7 @@ class Verdict:
             return self.of_ran(ran)
         look = found.of(*LOOK)
         lines = self.of_calm(look)
-        return [*lines, f"{upper_first(look[0].advice)}."] if look else lines
+        return [*lines, *(f"{upper_first(one.advice)}." for one in look[:1] if one.advice)]
 
     @staticmethod
     def short(place):

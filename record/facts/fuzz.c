@@ -1,5 +1,6 @@
 /* Converts what a fuzzer makes: `make fuzz-facts` in record/. The first byte of an input says what
- * the others are: LOG.places, or the records of a log, or bytes to change in it and its records.
+ * the others are: LOG.places, or the records of a log, or bytes to change in it and its records, or
+ * the kernel's events, or a log whose numbers are times, with several heads in a chunk.
  */
 #define _GNU_SOURCE
 #include "order.h"
@@ -12,7 +13,8 @@
 #include <stdlib.h>
 #include <string.h>
 
-enum { PLACES, RECORDS, CHANGES, EVENTS, WAYS, THREADS = 4, RECORD_SEED = 12, CHANGE_SEED = 4 };
+enum { PLACES, RECORDS, CHANGES, EVENTS, TIMES, WAYS };
+enum { CHUNKS = 4, THREADS = 8, RECORD_SEED = 12, CHANGE_SEED = 4, HEAD_SEED = 240 };
 
 jmp_buf refused;
 
@@ -49,6 +51,14 @@ static void convert(const char *bytes, size_t length, struct beside beside) {
     free_all();
 }
 
+static struct chunk_head made_head(uint32_t thread, uint32_t index) {
+    return (struct chunk_head){ .mark = CHUNK_MARK,
+                                .process = 7 + thread / 3,
+                                .task = 10 + thread,
+                                .thread = thread + 1,
+                                .index = index };
+}
+
 /* Makes a header and the chunks of a few threads. */
 static struct header *make_log(size_t length) {
     struct header *header = aligned_alloc(FIELDS_BYTES, length);
@@ -59,18 +69,13 @@ static struct header *make_log(size_t length) {
     header->header_bytes = HEADER_BYTES;
     header->record_bytes = sizeof(struct record);
     header->chunk_records = CHUNK_RECORDS;
-    header->chunks = header->next_chunk = THREADS;
+    header->chunks = header->next_chunk = CHUNKS;
     header->next_thread = THREADS + 1;
     header->next_number = 1;
     header->began_monotonic = 1000;
     for (uint64_t i = 0; i < 16; i++) header->places[i] = 0x401000 + i;
-    for (uint32_t i = 0; i < THREADS; i++) {
-        struct chunk_head *head = (struct chunk_head *)((char *)header + HEADER_BYTES +
-                                                        i * CHUNK_BYTES);
-        *head = (struct chunk_head){
-            .mark = CHUNK_MARK, .process = 7 + i / 3, .task = 10 + i, .thread = i + 1
-        };
-    }
+    for (uint32_t i = 0; i < CHUNKS; i++)
+        *(struct chunk_head *)((char *)header + HEADER_BYTES + i * CHUNK_BYTES) = made_head(i, 0);
     return header;
 }
 
@@ -91,20 +96,33 @@ static struct record record_of(const uint8_t *seed) {
                             .how = seed[8] & 128 ? seed[9] : seed[8] % 5 };
 }
 
-/* Fills the chunks with records. */
+/* Makes the time of a record its number, or one more than its thread's last one. */
+static void number_by_time(struct header *header, struct record *record, uint64_t *last) {
+    record->number = record->time > *last ? record->time : *last + 1;
+    *last = record->number;
+    if (record->number >= header->next_number) header->next_number = record->number + 1;
+}
+
+/* Fills the chunks with records, and with the heads of other threads if numbers are times. */
 static void fill(struct header *header, const uint8_t *data, size_t size) {
-    uint32_t used[THREADS] = { 0 };
-    uint64_t now = 1000;
+    uint32_t used[CHUNKS] = { 0 };
+    uint64_t now = 1000, last[CHUNKS] = { 0 };
     for (; size >= RECORD_SEED; data += RECORD_SEED, size -= RECORD_SEED) {
-        uint32_t thread = data[0] % THREADS;
-        if (++used[thread] >= CHUNK_RECORDS) break;
+        uint32_t chunk = data[0] % CHUNKS;
+        if (++used[chunk] >= CHUNK_RECORDS) break;
         struct record *record = (struct record *)((char *)header + HEADER_BYTES +
-                                                  thread * CHUNK_BYTES) +
-                                used[thread];
+                                                  chunk * CHUNK_BYTES) +
+                                used[chunk];
+        if (header->contents & HAS_TIMES && data[1] >= HEAD_SEED) {
+            *(struct chunk_head *)record = made_head(data[2] % THREADS, data[3] % 2);
+            last[chunk] = 0;
+            continue;
+        }
         *record = record_of(data);
         record->time = now += data[10] * 16u;
         if (data[11] & 128) record->time = now - data[11];
         record->number = header->next_number++;
+        if (header->contents & HAS_TIMES) number_by_time(header, record, &last[chunk]);
         if (record->event == EVENT_TEXT) record->how = data[9] % 24;
     }
 }
@@ -115,7 +133,7 @@ static size_t change(char *log, size_t length, const uint8_t *data, size_t size)
     for (; count > 0 && done + CHANGE_SEED <= size; count--, done += CHANGE_SEED) {
         const uint8_t *seed = data + done;
         size_t at = seed[0] & 1 ? seed[1] : HEADER_BYTES + (size_t)seed[1] * 64 + seed[2] % 64;
-        if (seed[0] & 2) at = HEADER_BYTES + seed[1] % THREADS * CHUNK_BYTES + seed[2] % 32;
+        if (seed[0] & 2) at = HEADER_BYTES + seed[1] % CHUNKS * CHUNK_BYTES + seed[2] % 32;
         log[at % length] = (char)seed[3];
     }
     return done < size ? done : size;
@@ -154,10 +172,12 @@ static char *make_events(const uint8_t *data, size_t size, size_t *length) {
 }
 
 int LLVMFuzzerTestOneInput(const uint8_t *data, size_t size) {
-    const size_t length = HEADER_BYTES + THREADS * CHUNK_BYTES;
+    const size_t length = HEADER_BYTES + CHUNKS * CHUNK_BYTES;
     if (size == 0) return 0;
     uint8_t way = data[0] % WAYS;
     struct header *header = make_log(length);
+    if (way == TIMES) header->contents = HAS_TIMES;
+    if (way == TIMES && size > 1 && data[1] & 1) header->lost = header->first_lost = 1 + data[1];
     size_t behind = way == CHANGES ? 1 + change((char *)header, length, data + 1, size - 1) : 1;
     if (way != PLACES) fill(header, data + behind, size - behind);
     if (way == CHANGES) change((char *)header, length, data + 1, size - 1);

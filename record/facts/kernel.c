@@ -384,8 +384,11 @@ static void put_event(struct reading *reading, uint32_t at) {
     if (reading->ends[at] != NONE)
         put_end(reading, event, &reading->waits[reading->ends[at]]);
     if (event->what == SWITCH) put_switch(reading, event, reading->leaves[at]);
-    if (event->what == SETPRIO)
-        put(reading, event, event->other, RUNS)->value = event->other_level;
+    if (event->what == SETPRIO) {
+        struct kernel_fact *fact = put(reading, event, event->other, RUNS);
+        fact->value = event->other_level;
+        fact->is_boost = true;
+    }
     if (event->what == WOKEN) put(reading, event, event->other, WAKE);
     if (reading->begins[at] != NONE)
         put_begin(reading, event, &reading->waits[reading->begins[at]]);

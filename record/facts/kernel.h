@@ -16,6 +16,7 @@ struct kernel_fact {
                       * LOCK_FAILS: the mutex */
     uint32_t by;     /* FUTEX_ENDS: the thread that woke it, or NONE; LOCK: the call's record */
     uint16_t flags;  /* FUTEX_ENDS: how it ended */
+    bool is_boost;   /* RUNS: a boost begins, changes or ends */
     uint8_t what;
 };
 

@@ -34,6 +34,7 @@ struct order {
     /* By thread of the log: how many of each it owns, if it counts. */
     uint32_t (*ceilings)[LEVEL_MOST + 1];
     uint32_t *ceiling;         /* by mutex, or NONE */
+    bool is_ceiling[LEVEL_MOST + 1]; /* by level: a mutex has it, or had it */
     struct table owned_before; /* by thread and mutex */
     uint32_t *declared;        /* the threads, in the order of the log's numbers */
     uint32_t declared_count;
@@ -285,13 +286,27 @@ static void block(struct order *order, const struct fact *fact) {
 
 /* ---- what the kernel does ---- */
 
+/* Returns whether a level is one that was set unseen, as by another process: the thread ran at its
+ * own one, it has no boost, and the C library sets no such ceiling. */
+static bool is_set_unseen(struct order *order, const struct kernel_fact *fact) {
+    uint32_t before = running_of(order, fact->thread)->level, level = fact->value;
+    if (fact->thread >= order->kernel->first_other || fact->is_boost) return false;
+    return before == own_level(order, fact->thread) && level != before &&
+           !order->is_ceiling[level];
+}
+
 /* The kernel shows at which level it runs a thread. That of a thread that is being created is its
  * creator's. The C library raises a thread to a ceiling before it waits for the mutex. */
 static void show_level(struct order *order, const struct kernel_fact *fact) {
     uint32_t first = order->log->threads[fact->thread].first, awaited = order->awaits[fact->thread];
     bool is_new = first != NONE && fact->time < record_at(order->log, first)->time;
     bool is_raised = awaited != NONE && order->ceiling[awaited] == fact->value;
-    if (!is_new && !is_raised) runs(order, fact->thread, fact->value);
+    if (is_new || is_raised) return;
+    if (is_set_unseen(order, fact)) {
+        order->level[fact->thread] = fact->value;
+        put_level(order, fact->thread, " priority", fact->value);
+    }
+    runs(order, fact->thread, fact->value);
 }
 
 /* A thread is on a CPU, unless it is on one already, or another is on it. */
@@ -419,6 +434,7 @@ static void set_ceiling(struct order *order, const struct fact *fact) {
     if (owner != NONE) has_ceiling(order, owner, fact->other, 1);
     if (owner != NONE) has_ceiling(order, owner, order->ceiling[fact->mutex], -1);
     order->ceiling[fact->mutex] = fact->other;
+    order->is_ceiling[fact->other] = true;
 }
 
 static void put_fact(struct order *order, const struct fact *fact) {
@@ -569,6 +585,28 @@ static void put_unknown(struct order *order, uint32_t known, const char *what) {
     text_end(order->text);
 }
 
+static bool is_loaded(const struct log *log, const char *file) {
+    for (uint32_t i = 0; i < log->module_count; i++) {
+        const struct name *name = &log->names[log->modules[i].name];
+        if (name->length == strlen(file) && memcmp(name->bytes, file, name->length) == 0)
+            return true;
+    }
+    return false;
+}
+
+/* Writes a line for each library whose waits are futexes of its own. */
+static void declare_libraries(struct order *order) {
+    static const char *const libraries[] = { "libgomp.so.1", "libiomp5.so", "libjack.so.0",
+                                             "libomp.so", "libomp.so.5" };
+    for (size_t i = 0; i < sizeof libraries / sizeof *libraries; i++) {
+        if (!is_loaded(order->log, libraries[i])) continue;
+        text_begin(order->text);
+        text_word(order->text, "unseen waits by futexes of ");
+        text_word(order->text, libraries[i]);
+        text_end(order->text);
+    }
+}
+
 static void declare_unseen(struct order *order) {
     const struct header *header = &order->log->header;
     put_unknown(order, KNOWN_KIND, "unseen kinds of mutexes");
@@ -580,6 +618,7 @@ static void declare_unseen(struct order *order) {
                " early records that were dropped for later ones");
     put_unseen(order, header->unplaced, " record for whose place the log had no room",
                " records for whose places the log had no room");
+    declare_libraries(order);
     if (!order->kernel->is_there || order->kernel->is_whole) return;
     text_begin(order->text);
     text_word(order->text, "unseen the rest of the kernel's events, which aren't whole");
@@ -608,7 +647,9 @@ static void make(struct order *order) {
         order->running[thread] = (struct running){ NONE, NONE, 0 };
     for (uint32_t mutex = 0; mutex < mutexes; mutex++) {
         const struct mutex *its = &order->log->mutexes[mutex];
-        if (is_protect(its)) order->ceiling[mutex] = ceiling_of(its);
+        if (!is_protect(its)) continue;
+        order->ceiling[mutex] = ceiling_of(its);
+        order->is_ceiling[order->ceiling[mutex]] = true;
     }
     size_t logged = order->kernel->count ? order->kernel->first_other : 0;
     size_t bytes = logged * sizeof *order->ceilings;

@@ -8,7 +8,7 @@ from tests.record.logs import reader
 kernel_text = reader.kernel_text
 RUNS, ON, READY, ASLEEP, WAKE, LOST = "runs", "on", "off ready", "off asleep", "wake", "lost"
 FUTEX, FUTEX_ENDS, LOCK, LOCK_FAILS = "blocks", "resumes", "waits", "gave-up"
-MOST_CPU = 65535
+MOST_CPU, BOOST = 65535, "boost"
 # `task` is None of LOST. `value` is a level, a CPU, a number of events, the address of a futex, or the record of a call
 # for a mutex.
 Fact = namedtuple("Fact", "time what task value by how", defaults=(None, None))
@@ -131,7 +131,7 @@ class Kernel:
             if self.leaves(at):
                 yield Fact(event.time, ON, other, event.cpu)
         elif event.what == "setprio":
-            yield Fact(event.time, RUNS, event.values[0], level_of(event.values[2]))
+            yield Fact(event.time, RUNS, event.values[0], level_of(event.values[2]), how=BOOST)
         elif event.what == "wake":
             yield Fact(event.time, WAKE, event.values[0], None)
         for wait in self.waits:

@@ -25,6 +25,7 @@ SAID_BY = {log_facts.WAITS: reader.REQUEST, log_facts.GRANTED: reader.GRANTED, l
 KINDS = {2: "rwlock", 3: "rwlock", 6: "condition"}
 NUMBERED, UNNUMBERED = (re.compile(start + rb" 0x([0-9a-f]{1,16}) (.*)", re.DOTALL)
                         for start in (rb"([1-9][0-9]{0,3})", rb"(-)"))
+LIBRARIES = "libgomp.so.1", "libiomp5.so", "libjack.so.0", "libomp.so", "libomp.so.5"  # which call futexes themselves
 UNSEEN = (("left_out", "call", "that the recorder couldn't see whole"),
           ("dropped", "early record", "that {} dropped for later ones"),
           ("unplaced", "record", "for whose {} the log had no room"))
@@ -258,6 +259,7 @@ class Writer:
         self.owner, self.awaits, self.blocked = {}, {}, {}
         self.of_kernel = set()             # threads that wait for a mutex by the kernel's events alone
         self.early, self.ceiling = {}, {}  # by mutex a release that is still to come; the last ceiling
+        self.ceilings = set()              # all that a mutex has, or had
         self.to_come = {}                  # by thread the end of its wait for an object, or None
         self.owned_before, self.is_unknown_declared = set(), False
         self.level = {thread: clamped(self.log.first_level.get(thread, 0)) for thread in self.log.identity}
@@ -316,6 +318,7 @@ class Writer:
                      self.log.mutexes.protocol(mutex)]
             if mutex in ceilings:
                 self.ceiling[mutex] = clamped(ceilings[mutex])
+                self.ceilings.add(self.ceiling[mutex])
                 words.append(self.ceiling[mutex])
             self.lines.append(" ".join(map(str, [*words, self.names.mutex(mutex)])))
         for thing, number in self.objects.items():
@@ -331,6 +334,8 @@ class Writer:
             if count:
                 said = {"dropped": "was" if count == 1 else "were", "unplaced": "place" if count == 1 else "places"}
                 self.lines.append(f"unseen {count} {what}{'s' if count > 1 else ''} {why.format(said.get(field))}")
+        loaded = {name[:NAME_BYTES] for _, _, name, _ in self.names.modules}
+        self.lines += [f"unseen waits by futexes of {name}" for name in LIBRARIES if name.encode() in loaded]
         if self.kernel and not self.kernel.is_whole:
             self.lines.append("unseen the rest of the kernel's events, which aren't whole")
 
@@ -514,6 +519,13 @@ class Writer:
         if after != before and runs is not None and (runs == before or runs < after):
             self.runs_at(thread, after)
 
+    def set_unseen(self, thread, fact):
+        """A level without a boost, of a thread that ran at its own one, is its own from now on, unless it is a ceiling."""
+        ran = None if isinstance(thread, tuple) or fact.how == plain_kernel.BOOST else self.runs.get(thread)
+        if ran is not None and ran == self.own(thread) != fact.value and fact.value not in self.ceilings:
+            self.level[thread] = fact.value
+            self.put(thread, "priority", fact.value)
+
     def runs_at(self, thread, level):
         if isinstance(thread, tuple):
             if self.level[thread] != level:
@@ -539,6 +551,7 @@ class Writer:
             first = next((one.time for one in self.log.records if one.chunk.thread == thread), 0)
             awaited = self.awaits.get(thread, (None,))[0]
             if fact.time >= first and self.ceiling.get(awaited) != fact.value:
+                self.set_unseen(thread, fact)
                 self.runs_at(thread, fact.value)
         elif fact.what == plain_kernel.ON:
             if thread not in self.on and fact.value not in self.on.values():
@@ -586,6 +599,7 @@ class Writer:
         before = self.own(owner)
         self.put(fact.thread, "ceiling", self.mutexes[fact.mutex], level)
         self.ceiling[fact.mutex] = level
+        self.ceilings.add(level)
         self.follow(owner, before)
 
     def all(self):

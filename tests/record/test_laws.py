@@ -164,8 +164,8 @@ class Laws(Case):
         for event in (THREAD, CREATE, PRIORITY):
             self.told(f"event {event} has no policy 4", (1, event, 1, 0, 4, 0),
                       "there is no policy 4")
-        for event in (REQUEST, GRANTED, RELEASE):
-            for how in (6, 6 | OWNER_DIED):
+        for event, calls in ((REQUEST, (5, 6)), (GRANTED, (5, 6)), (RELEASE, (1, 2, 3, 5, 6))):
+            for how in (*calls, 6 | OWNER_DIED):
                 self.told(f"event {event} has no call {how}", (1, event, MUTEX, 0, INHERIT, how),
                           f"there is no call {how}")
         for event, kinds in ((WAITS, (0, 6, 7)), (WAITED, (0, 6, 0x101)), (GIVE, (0, 3, 4, 5, 7))):
@@ -188,6 +188,13 @@ class Laws(Case):
         dropped = log_of_three(start(1) + waited(1))
         struct.pack_into("<QQ", dropped, 232, 1, 900)
         self.equal("a wait may have been dropped", (verdict(dropped),), ([],))
+
+    def test_only_a_request_of_version_4_is_of_a_change_of_a_ceiling(self):
+        for version, event, wanted in ((4, REQUEST, []), (3, REQUEST, ["there is no call 5"]), (4, GRANTED, ["there is no call 5"])):
+            data = log_of(start(1) + [(1, event, MUTEX, 0, INHERIT, 5)], 1, places=[1])
+            struct.pack_into("<I", data, 8, version)
+            self.equal(f"event {event} of version {version} with call 5", (verdict(data),),
+                       ([f"record 2: {why}" for why in wanted],))
 
     def test_a_child_owns_what_its_fork_owned(self):
         """A child owns what the thread of its fork owned, but for what is shared."""

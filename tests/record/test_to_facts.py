@@ -149,6 +149,14 @@ BY_HAND = {
         @3 1 MODULE 0x1000 text /lib/second
         @10 1 GRANTED 0x1500 none
         """, "10 701 granted 1"),
+    "libraries that call futexes themselves, each said once": ("""
+        @1 1 THREAD 0x10 fifo 10
+        @2 1 MODULE 0x1000 text /lib/libomp.so.5
+        @2 1 MODULE 0x2000 text /lib/libgomp.so.1
+        @3 2 THREAD 0x20 fifo 10
+        @3 2 MODULE 0x2000 text /usr/lib/libgomp.so.1
+        @4 1 MODULE 0x3000 text /lib/libiomp5.so.2
+        """, "unseen waits by futexes of libgomp.so.1, unseen waits by futexes of libomp.so.5"),
     "a wait for an own mutex": ("""
         @1 1 THREAD 0x10 fifo 10
         @10 1 GRANTED 0x500 none
@@ -232,6 +240,45 @@ BY_HAND = {
         100 0 701 wait 0x900 private
         110 0 701 switch 89 S 0 120
         300 0 701 unlock 0x500 private
+        """),
+    "a level that is set unseen is the own one from the first switch that shows it": ("""
+        @1 1 THREAD 0x10 other
+        @400 1 EXIT
+        """, "100 701 runs 0, 100 701 off asleep, 200 701 priority 30, 200 701 runs 30, 200 701 on 0, 300 701 off ready, "
+             "350 701 priority 0, 350 701 runs 0", """
+        100 0 701 switch 120 S 0 120
+        200 0 0 switch 120 R 701 69
+        300 0 701 switch 69 R 0 120
+        350 0 0 switch 120 R 701 120
+        """),
+    "it isn't, if it is a boost, or comes after a boost that was lost": ("""
+        @1 1 THREAD 0x10 fifo 10
+        @400 1 EXIT
+        """, "100 701 runs 10, 100 701 off ready, 150 701 runs 40, 200 701 runs 20, 200 701 on 0, 300 701 off ready", """
+        100 0 701 switch 89 R 0 120
+        150 1 9 setprio 701 89 59
+        200 0 0 switch 120 R 701 79
+        300 0 701 switch 79 R 0 120
+        """),
+    "it isn't, if it is a ceiling": ("""
+        @1 1 THREAD 0x10 fifo 10
+        @5 2 THREAD 0x20 fifo 20
+        @250 2 GRANTED 0x500 protect 30
+        @400 2 RELEASE 0x500 protect 30
+        """, "100 702 runs 20, 100 702 off ready, 200 702 runs 30, 200 702 on 0, 250 702 granted 1, 300 702 off ready, "
+             "400 702 released 1, 400 702 runs 20", """
+        100 0 702 switch 79 R 0 120
+        200 0 0 switch 120 R 702 69
+        300 0 702 switch 69 R 0 120
+        """),
+    "it isn't, if events were lost since the last one": ("""
+        @1 1 THREAD 0x10 fifo 10
+        @400 1 EXIT
+        """, "100 701 runs 10, 100 701 off ready, 120 lost 3, 200 701 runs 30, 200 701 on 0, 300 701 off ready", """
+        100 0 701 switch 89 R 0 120
+        150 1 0 lost 3 120
+        200 0 0 switch 120 R 701 69
+        300 0 701 switch 69 R 0 120
         """),
     "waits that time out, fail, and last": ("""
         @1 1 THREAD 0x10 fifo 10
