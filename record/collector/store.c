@@ -364,6 +364,19 @@ bool store_collect(struct store *of, bool is_with_begun) {
     return is_any_done;
 }
 
+/* ---- loss ---- */
+
+enum loss store_loss(const struct store *of) {
+    const struct header *header = &of->view->header;
+    if (of->lost) return LOSS_DISK;
+    if (atomic_load(&header->first_lost) == 0) return NO_LOSS;
+    return atomic_load(&header->next_chunk) < of->chunks ? LOSS_MEMORY : LOSS_SIZE;
+}
+
+uint64_t store_lost(const struct store *of) {
+    return of->lost + atomic_load(&of->view->header.lost);
+}
+
 /* ---- snapshots ---- */
 
 /* Copies the chunks that aren't in the ring. */
@@ -458,7 +471,6 @@ void store_end(struct store *ended) {
     else
         write_header(ended);
     if (atomic_load(&ended->view->is_unused)) remove_file(ended);
-    store_leave(ended);
 }
 
 void store_remove(struct store *removed) {

@@ -3,6 +3,7 @@ import contextlib
 import os
 import pathlib
 import re
+import select
 import shutil
 import signal
 import subprocess
@@ -243,6 +244,25 @@ class Collector(Case):
         log = read(f"{self.folder}/run")
         got = done.returncode, counted(log, reader.GRANTED), log.head.lost
         self.check("a flood of records", broken(log) or difference(got, (0, 2 * 2 * 30000, 0)))
+
+    def test_a_loss_is_said_as_it_happens(self):
+        """A line says that records are lost while the program still runs, once, whichever of its programs it is."""
+        program = PROGRAMS / "rounds", "pairs", CHUNK_RECORDS * 40  # a round takes 1.2 MB
+        said = "pim-record: the log has no room for what comes now: --size makes it larger, --last keeps the latest ones\n"
+        lost = r"pim-record: the log had no room for \d+ records: --size makes it larger, --last keeps the latest ones\n"
+        for name, command in ("the program", program), ("what it starts", ("sh", "-c", '"$@"; true', "sh", *program)):
+            own = pathlib.Path(self.folder, name)
+            own.mkdir()
+            running = Running(own, *command, options=["--size", "1"])
+            running.says("go")
+            is_there = bool(select.select([running.child.stderr], [], [], SECONDS)[0])
+            got = running.child.stderr.readline() if is_there else None
+            self.check(f"a loss of {name} is said as it happens", difference((got,), (said,)))
+            running.says("go")
+            out, err = running.child.communicate(timeout=SECONDS)
+            first = err.splitlines(True)[0]
+            self.check(f"a loss of {name} is said once, and at the end how much it is",
+                       None if said not in err and re.fullmatch(lost, first) else err)
 
     def test_while_the_collector_is_stopped_nothing_is_lost(self):
         """While the collector is stopped the program goes on in more memory, and nothing is lost."""
