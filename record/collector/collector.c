@@ -31,12 +31,14 @@ static struct state {
     const char *log;
     struct amount amount;
     struct sockets sockets;
+    pid_t parent;
     int channel;
     struct store *first;  /* of the first program, before it has come */
     struct store *stores; /* of programs that have the memory */
     struct visitor visitors[MOST_VISITORS];
     size_t count;         /* of visitors */
     struct report report;
+    bool is_said;         /* that records are lost */
     bool is_ended;        /* the program has ended, or who started the collector is gone */
 } state;
 
@@ -149,6 +151,22 @@ static void let_in(int listener) {
 
 /* ---- collecting ---- */
 
+/* Counts what a log lost. */
+static void count_lost(const struct store *of) {
+    state.report.lost += store_lost(of);
+    if (state.report.loss == NO_LOSS) state.report.loss = store_loss(of);
+}
+
+/* Says to the parent that records are lost, once. */
+static void look_for_loss(void) {
+    for (struct store *it = state.stores; it && state.report.loss == NO_LOSS; it = it->next)
+        state.report.loss = store_loss(it);
+    if (state.is_said || state.is_ended || state.report.loss == NO_LOSS) return;
+    state.is_said = true;
+    send(state.channel, &state.report.loss, sizeof state.report.loss, MSG_NOSIGNAL);
+    if (getppid() == state.parent) kill(state.parent, SIGURG);
+}
+
 /* Collects from all logs, and ends those that nobody has any more. Returns whether a chunk was
  * done. */
 static bool collect(bool is_with_begun) {
@@ -162,7 +180,9 @@ static bool collect(bool is_with_begun) {
             continue;
         }
         store_end(store);
+        count_lost(store);
         *place = store->next;
+        store_leave(store);
         release(store);
     }
     return is_any_done;
@@ -233,6 +253,7 @@ static void hear_parent(void) {
     collect(true);
     look_for_waits();
     wait_for_writers(0);
+    for (struct store *it = state.stores; it; it = it->next) count_lost(it);
     state.report.goes_on = state.stores || state.count > 0;
     if (is_asked) send(state.channel, &state.report, sizeof state.report, MSG_NOSIGNAL);
     close(state.channel);
@@ -267,6 +288,7 @@ static _Noreturn void be_collector(void) {
         bool is_with_begun = now >= next_of_begun;
         bool is_any_done = collect(is_with_begun);
         look_for_waits();
+        look_for_loss();
         pause = is_any_done ? SHORTEST_MS : pause * 2 < LONGEST_MS ? pause * 2 : LONGEST_MS;
         next = milliseconds() + pause;
         if (is_with_begun) next_of_begun = next + BEGUN_MS;
@@ -313,6 +335,7 @@ static bool fork_collector(struct collector *started) {
     if (socketpair(AF_UNIX, SOCK_SEQPACKET | SOCK_CLOEXEC, 0, ends) != 0) return false;
     sigfillset(&all);
     sigprocmask(SIG_SETMASK, &all, &before);
+    state.parent = getpid();
     started->process = fork();
     started->channel = ends[0];
     state.channel = ends[1];
@@ -353,12 +376,18 @@ void ask_for_snapshot(const struct collector *of) {
     ask_collector(of, ASK_SNAPSHOT);
 }
 
+enum loss hear_loss(const struct collector *from) {
+    enum loss loss;
+    bool is_said = recv(from->channel, &loss, sizeof loss, MSG_DONTWAIT) == sizeof loss;
+    return is_said ? loss : NO_LOSS;
+}
+
 bool end_collector(const struct collector *ended, struct report *report) {
     bool is_sent = ask_collector(ended, ASK_END);
     ssize_t length;
-    do
+    do /* a loss may come before */
         length = is_sent ? recv(ended->channel, report, sizeof *report, 0) : 0;
-    while (length < 0 && errno == EINTR);
+    while (length == sizeof(enum loss) || (length < 0 && errno == EINTR));
     close(ended->channel);
     if (length != sizeof *report) { /* it was killed */
         remove_sockets(&ended->sockets);

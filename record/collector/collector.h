@@ -33,6 +33,8 @@ struct report {
     char why[96];     /* there was none for the last of those */
     uint32_t snapshots, unwritten; /* that were taken, and of those that couldn't be written */
     char wait[96];    /* the first one that caused a snapshot, or nothing */
+    uint64_t lost;    /* records, of all logs */
+    enum loss loss;   /* of the first of them */
 };
 
 /* Makes the file of the first log, and starts the collector. Returns NULL, or why it can't. */
@@ -41,6 +43,10 @@ const char *start_collector(struct collector *started, const char *log,
 
 /* With --last, has the collector write a snapshot, and doesn't wait for it. */
 void ask_for_snapshot(const struct collector *of);
+
+/* Returns why records are lost, or NO_LOSS if the collector hasn't said so since it was asked last.
+ * It sends SIGURG as it says it, once in a recording. */
+enum loss hear_loss(const struct collector *from);
 
 /* Has all written that is there, and waits for it. Returns false where the collector is gone. */
 bool end_collector(const struct collector *ended, struct report *report);

@@ -258,7 +258,7 @@ static uint64_t number_of(const struct record *record) {
 static bool is_slot_done(const struct record *chunk) {
     const struct chunk_head *head = (const struct chunk_head *)chunk;
     bool is_full = number_of(&chunk[CHUNK_RECORDS - 1]) != 0;
-    return is_full || atomic_load_explicit(&head->place, memory_order_acquire) & CHUNK_IS_CLOSED;
+    return is_full || atomic_load_explicit(&head->place, memory_order_acquire) & ~CHUNK_PLACE;
 }
 
 /* Finds the chunks that are to be written: those that are done, or all. Returns how many. */
@@ -274,7 +274,7 @@ static size_t find_chunks(struct store *of, bool is_with_begun) {
         if (atomic_load_explicit(&head->mark, memory_order_acquire) != CHUNK_MARK) continue;
         bool is_done = is_slot_done(chunk);
         if (!is_done && !is_with_begun) continue;
-        uint64_t place = atomic_load(&head->place) & ~CHUNK_IS_CLOSED;
+        uint64_t place = atomic_load(&head->place) & CHUNK_PLACE;
         of->found[count++] = (struct found){ .place = place, .slot = slot, .is_done = is_done };
     }
     return count;
@@ -362,6 +362,19 @@ bool store_collect(struct store *of, bool is_with_begun) {
     if (of->ring && is_with_begun) ring_look_at_time(of->ring, clock_time());
     if (!of->ring && (is_any_done || is_with_begun)) write_header(of);
     return is_any_done;
+}
+
+/* ---- loss ---- */
+
+enum loss store_loss(const struct store *of) {
+    const struct header *header = &of->view->header;
+    if (of->lost) return LOSS_DISK;
+    if (atomic_load(&header->first_lost) == 0) return NO_LOSS;
+    return atomic_load(&header->next_chunk) < of->chunks ? LOSS_MEMORY : LOSS_SIZE;
+}
+
+uint64_t store_lost(const struct store *of) {
+    return of->lost + atomic_load(&of->view->header.lost);
 }
 
 /* ---- snapshots ---- */
@@ -458,7 +471,6 @@ void store_end(struct store *ended) {
     else
         write_header(ended);
     if (atomic_load(&ended->view->is_unused)) remove_file(ended);
-    store_leave(ended);
 }
 
 void store_remove(struct store *removed) {

@@ -22,6 +22,14 @@ struct room {
     bool has_stacks;   /* --stacks: with the stacks of requests */
 };
 
+/* Why records are lost. */
+enum loss {
+    NO_LOSS,
+    LOSS_SIZE,   /* the log is as long as it may be */
+    LOSS_DISK,   /* its file takes no more */
+    LOSS_MEMORY, /* too many wait to be written */
+};
+
 struct store {
     struct store *next;
     int file, memory;          /* descriptors; the memory's is -1 before it is made */
@@ -68,14 +76,19 @@ bool store_write_snapshot(const struct store *of, unsigned number);
 
 void store_leave_snapshot(struct store *of);
 
+/* Returns why records are lost by now. */
+enum loss store_loss(const struct store *of);
+
+/* Returns how many are. */
+uint64_t store_lost(const struct store *of);
+
 /* Returns whether no process has the memory any more. */
 bool store_is_over(const struct store *of);
 
-/* Writes what is left, and closes all. The file is removed if the program says that it is
- * unused. */
+/* Writes what is left. The file is removed if the program says that it is unused. */
 void store_end(struct store *ended);
 
-/* Closes all, in a process that collects nothing. */
+/* Closes all. */
 void store_leave(struct store *of);
 
 /* Closes all, and removes the file. */

@@ -28,6 +28,8 @@ static struct shared *shared; /* the memory, up to the end of its first part of 
 static char *_Atomic parts[MOST_SLOTS / PART_SLOTS]; /* where the slots are; NULL: not mapped yet */
 static uint64_t slots;        /* for how many chunks the memory has room */
 static _Atomic uint64_t touched; /* slots below this one were touched by this process */
+static _Atomic uint64_t touched_late[MOST_SLOTS / 64]; /* a bit for each of the others */
+static _Atomic bool has_real_time;
 static bool is_first_program; /* of those that the recording has started */
 static bool are_chunks_shared; /* by threads, one after another */
 static const struct record *next_when_begun; /* the record of the first thread */
@@ -205,6 +207,16 @@ void log_prepare(void) {
     errno = error;
 }
 
+void log_has_real_time(void) {
+    atomic_store(&has_real_time, true);
+    log_prepare();
+}
+
+void log_is_real_time(bool is_real_time) {
+    log_cursor.is_real_time = is_real_time;
+    if (is_real_time) log_has_real_time();
+}
+
 void log_be_quiet(void) {
     int error = errno;
     log_prepare();
@@ -219,6 +231,8 @@ void log_is_forked(uint32_t forked) {
     log_header = made;
     process = forked;
     atomic_store(&touched, 0);
+    for (uint64_t slot = 0; slot < atomic_load(&shared->next_slot) && slot < slots; slot += 64)
+        atomic_store(&touched_late[slot / 64], 0);
     if (!atomic_load(&log_is_quiet)) madvise(shared, sizeof *shared, MADV_POPULATE_WRITE);
 }
 
@@ -285,11 +299,11 @@ bool log_remove_unused(void) {
 
 /* ---- chunks ---- */
 
-/* Returns the number of a slot that the collector has given back, or that was touched ahead, or
- * `slots`. The lowest come first: they are in the CPU's cache. */
-static uint64_t take_free_slot(void) {
+/* Returns the number of a slot that the collector has given back, or that was touched ahead, from
+ * `first` on, or `slots`. The lowest come first: they are in the CPU's cache. */
+static uint64_t take_free_slot(uint64_t first) {
     uint64_t used = atomic_load(&shared->next_slot);
-    for (uint64_t word = 0; word * 64 < used; word++) {
+    for (uint64_t word = first / 64; word * 64 < used; word++) {
         uint64_t bits = atomic_load_explicit(&shared->free[word], memory_order_relaxed);
         while (bits) {
             uint64_t lowest = bits & -bits;
@@ -307,11 +321,27 @@ static uint64_t take_fresh_slot(void) {
     return atomic_fetch_add(&shared->next_slot, 1);
 }
 
+/* Returns a slot for a chunk of the calling thread, or `slots`. */
+static uint64_t take_slot(void) {
+    bool is_limited = atomic_load(&has_real_time) && !log_cursor.is_real_time;
+    uint64_t slot = take_free_slot(is_limited ? OWN_SLOTS : 0);
+    if (slot == slots) slot = take_fresh_slot();
+    return slot == slots && is_limited ? take_free_slot(0) : slot;
+}
+
+/* Touches a slot, but for one that this process has touched. */
+static bool touch_late(uint64_t slot) {
+    uint64_t bit = UINT64_C(1) << slot % 64;
+    if (slot < atomic_load(&touched) || atomic_load(&touched_late[slot / 64]) & bit) return true;
+    if (!touch(slot, 1)) return false;
+    atomic_fetch_or(&touched_late[slot / 64], bit);
+    return true;
+}
+
 /* Returns where a slot is that is to be used, or NULL where it can't be had. One that nobody has
  * touched ahead is touched here. */
 static char *use_slot(uint64_t slot) {
-    bool is_there = slot < slots && (slot < atomic_load(&touched) || touch(slot, 1));
-    return is_there ? address_of(slot) : NULL;
+    return slot < slots && touch_late(slot) ? address_of(slot) : NULL;
 }
 
 static void give_back_slot(uint64_t slot) {
@@ -331,8 +361,7 @@ static struct beginning in_new_chunk(void) {
     struct header *header = log_header;
     uint64_t chunks = atomic_load(&header->chunks);
     if (atomic_load(&header->next_chunk) >= chunks) return begun;
-    begun.slot = take_free_slot();
-    if (begun.slot == slots) begun.slot = take_fresh_slot();
+    begun.slot = take_slot();
     char *memory = use_slot(begun.slot);
     if (!memory) return begun;
     begun.place = atomic_fetch_add(&header->next_chunk, 1) + 1;
@@ -385,6 +414,20 @@ bool log_open_chunk(void) {
     return begun.chunk != NULL;
 }
 
+/* Says to the collector that the thread's chunk gets no more records, and why. */
+static void mark_chunk(uint64_t why) {
+    struct chunk_head *head = (struct chunk_head *)(log_cursor.end - CHUNK_RECORDS);
+    atomic_fetch_or_explicit(&head->place, why, memory_order_release);
+}
+
+void log_renew_chunk(void) {
+    if (!log_enter()) return;
+    if (log_cursor.next != log_cursor.end) mark_chunk(CHUNK_HAS_NEXT);
+    log_cursor.next = log_cursor.end = NULL;
+    log_open_chunk();
+    log_end();
+}
+
 static void count_lost(void) {
     atomic_fetch_add(&log_header->lost, log_cursor.lost);
     log_cursor.lost = 0;
@@ -409,10 +452,7 @@ static void end_chunk(bool may_leave) {
     bool is_full = log_cursor.next == log_cursor.end; /* the collector has it already, or another */
     bool is_long = log_cursor.end - log_cursor.next >= LEAST_LEFT;
     bool is_left = may_leave && is_long && leave();
-    if (!is_full && !is_left) {
-        struct chunk_head *head = (struct chunk_head *)(log_cursor.end - CHUNK_RECORDS);
-        atomic_fetch_or_explicit(&head->place, CHUNK_IS_CLOSED, memory_order_release);
-    }
+    if (!is_full && !is_left) mark_chunk(CHUNK_IS_CLOSED);
     log_cursor.next = log_cursor.end = NULL;
     log_end();
 }

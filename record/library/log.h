@@ -27,6 +27,7 @@ enum {
     CHUNK_RECORDS = 512,
     TEXT_BYTES = 22,
     LONGEST_TEXT = 4095,
+    RECORDS_AHEAD = 4, /* of a lock and its unlock, at most */
     MODULE_PAGE = 4096, /* whatever the machine's page is */
 };
 
@@ -117,8 +118,10 @@ struct chunk_head {
     _Atomic uint64_t place; /* of a first head in memory: the place in the file, from 1 on; else 0 */
 };
 
-/* Added to the place once the thread puts no more records there. */
+/* Added to the place once the thread puts no more records there: it has no other chunk, or it has. */
 #define CHUNK_IS_CLOSED (UINT64_C(1) << 63)
+#define CHUNK_HAS_NEXT (UINT64_C(1) << 62)
+#define CHUNK_PLACE (CHUNK_HAS_NEXT - 1)
 
 #define CHUNK_MARK UINT64_C(0x6b6e7568436d6970) /* "pimChunk" in a log of this byte order */
 
@@ -180,6 +183,7 @@ struct cursor {
     uint32_t lost;       /* records for which there was no room, and that it doesn't count yet */
     uint64_t number;     /* of the last record, if numbers are times */
     uint64_t slot;       /* of the chunk */
+    bool is_real_time;
     bool is_introduced; /* its THREAD record is written, or is being written */
     bool is_behind;      /* there are such grants or such calls */
     volatile bool is_writing;
@@ -209,6 +213,11 @@ void log_has_begun(void);
  * whether it is. */
 bool log_remove_unused(void);
 
+/* Says that a thread has a real-time priority, or that the calling one has or hasn't. From then on
+ * some slots are such threads' alone, so that they find one that is touched. */
+void log_has_real_time(void);
+void log_is_real_time(bool is_real_time);
+
 /* Touches the slots of many chunks, before the threads of a program with threads or of a real-time
  * priority come to use them. */
 void log_prepare(void);
@@ -222,6 +231,9 @@ void log_be_quiet(void);
 
 /* Gives the thread its next chunk. Returns false where there is no room. */
 bool log_open_chunk(void);
+
+/* Goes on in another chunk, where the thread's one has room for few records. */
+void log_renew_chunk(void);
 
 /* Gives the thread's chunk to the collector. A further record begins another chunk. */
 void log_close_chunk(void);
@@ -275,6 +287,12 @@ static inline bool log_begin(void) {
     }
     if (__builtin_expect(log_cursor.is_behind, 0)) log_catch_up();
     return true;
+}
+
+/* Has the records of a lock and its unlock in one chunk, as the lock begins: a thread that takes
+ * another one while it owns a mutex holds up who waits for that. */
+static inline void log_look_ahead(void) {
+    if (__builtin_expect(log_cursor.end - log_cursor.next < RECORDS_AHEAD, 0)) log_renew_chunk();
 }
 
 /* Returns the place of the thread's next record, of a time or 0, or NULL where there is no room. */

@@ -60,6 +60,7 @@ static __attribute__((noinline)) bool request_owned(const pthread_mutex_t *mutex
 /* Puts a REQUEST where the mutex is owned. Returns when the call began. */
 static inline struct asked request(const pthread_mutex_t *mutex, enum call call,
                                    const uintptr_t *caller) {
+    log_look_ahead();
     struct asked asked = { .began = clock_time() };
     if (!(inner_known & KNOWN_OWNER))
         log_leave_out();
@@ -124,6 +125,7 @@ EXPORT int pthread_mutex_clocklock(pthread_mutex_t *mutex, clockid_t clock,
 
 EXPORT int pthread_mutex_trylock(pthread_mutex_t *mutex) {
     if (!is_recorded()) return real.mutex_trylock(mutex);
+    log_look_ahead();
     struct asked asked = { .began = clock_time() };
     if (held_is_on()) asked.requests = held_requests(mutex);
     return answer(mutex, CALL_TRYLOCK, CALLER, asked, real.mutex_trylock(mutex));

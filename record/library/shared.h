@@ -10,10 +10,11 @@
 #include <assert.h>
 
 enum {
-    SHARED_VERSION = 4,
+    SHARED_VERSION = 5,
     MOST_SLOTS = 65536, /* 1 GB of chunks that aren't written yet */
     FEW_SLOTS = 32,     /* 0.5 MB, which are touched as a program begins */
     MANY_SLOTS = 256,   /* 4 MB, once it has threads or a real-time priority */
+    OWN_SLOTS = 64,     /* 1 MB, for threads of a real-time priority, once there are some */
     FREE_SLOTS = 64,    /* at least so many are free when a thread is created */
     PART_SLOTS = 256,   /* so many are mapped at a time */
     PART_BYTES = PART_SLOTS * CHUNK_BYTES,

@@ -45,7 +45,7 @@ void thread_introduce(void) {
     if (is_asked) policy = sched_getscheduler(0);
     if (is_asked) sched_getparam(0, &param);
     if (is_asked) prctl(PR_GET_NAME, name);
-    if (is_asked && is_real_time(policy)) log_prepare();
+    if (is_asked) log_is_real_time(is_real_time(policy));
     log_put((struct record){ .event = EVENT_THREAD,
                              .object = (uint64_t)pthread_self(),
                              .detail = detail_of_priority(policy, param.sched_priority) });
@@ -132,7 +132,12 @@ EXPORT int prctl(int option, ...) {
 
 /* The target is a pthread_t, or the kernel's number of a thread. */
 static void put_priority(uint64_t target, uint32_t task, int policy, int priority) {
-    if (is_real_time(policy)) log_prepare();
+    bool is_own = target ? target == (uint64_t)pthread_self() : task == log_cursor.task;
+    bool is_set = policy != POLICY_KEPT;
+    if (is_set && is_own)
+        log_is_real_time(is_real_time(policy));
+    else if (is_set && is_real_time(policy))
+        log_has_real_time();
     log_put((struct record){ .event = EVENT_PRIORITY,
                              .object = target,
                              .value = task,

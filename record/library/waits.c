@@ -118,6 +118,7 @@ EXPORT int sem_post(sem_t *semaphore) {
 #define LOCKS(name, tried, kind, is_valid, arguments, ...)                         \
     EXPORT int pthread_rwlock_##name(pthread_rwlock_t *lock, ##__VA_ARGS__) {     \
         if (!is_recorded() || !(is_valid)) return real.rwlock_##name arguments;   \
+        log_look_ahead();                                                         \
         if (real.rwlock_##tried(lock) == 0) return 0;                             \
         struct wait wait = begin_wait(kind, (uintptr_t)lock, CALLER);             \
         return end_wait(&wait, real.rwlock_##name arguments);                     \

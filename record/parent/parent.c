@@ -7,6 +7,7 @@
 #include "ordinary.h"
 
 #include <errno.h>
+#include <poll.h>
 #include <signal.h>
 #include <stdbool.h>
 #include <stdio.h>
@@ -20,6 +21,13 @@
 #include <unistd.h>
 
 enum { FAULT = 2, NAMES_BYTES = 256 };
+
+/* What to do about a loss. */
+static const char *const help[] = {
+    [LOSS_SIZE] = "--size makes it larger, --last keeps the latest ones",
+    [LOSS_DISK] = "the disk is full; -o names a log elsewhere",
+    [LOSS_MEMORY] = "they come faster than they are written; --last with --contended takes fewer",
+};
 
 static const long PERIOD = 50000000; /* nanoseconds between two looks at the kernel's events */
 
@@ -78,9 +86,20 @@ static void pass_on(pid_t program, int number) {
     if (sigismember(&pending, SIGCONT)) kill(program, SIGCONT);
 }
 
+/* Says that records are lost, as that begins. The program goes on meanwhile: a reader that takes
+ * nothing doesn't hold this process up. */
+static void say_loss(void) {
+    enum loss loss = parent.wanted->log ? hear_loss(&parent.collector) : NO_LOSS;
+    struct pollfd standard_error = { .fd = STDERR_FILENO, .events = POLLOUT };
+    if (loss != NO_LOSS && poll(&standard_error, 1, 0) > 0)
+        fprintf(stderr, "pim-record: the log has no room for what comes now: %s\n", help[loss]);
+}
+
 /* A process has sent a signal. */
 static void hear(pid_t program, int number) {
-    if (number == SIGUSR2 && parent.wanted->amount.room.is_last)
+    if (number == SIGURG)
+        say_loss();
+    else if (number == SIGUSR2 && parent.wanted->amount.room.is_last)
         ask_for_snapshot(&parent.collector);
     else
         pass_on(program, number);
@@ -114,6 +133,12 @@ static _Noreturn void end_as(int status) {
 }
 
 /* ---- the end ---- */
+
+static void say_lost(const struct report *report) {
+    if (report->lost)
+        fprintf(stderr, "pim-record: the log had no room for %llu records: %s\n",
+                (unsigned long long)report->lost, help[report->loss]);
+}
 
 static void say_unrecorded(const struct report *report) {
     if (report->others == 1)
@@ -165,6 +190,7 @@ static bool end_logs(void) {
         return true;
     }
     say_snapshots(&report);
+    say_lost(&report);
     say_unrecorded(&report);
     if (report.logs) say_unseen();
     if (report.logs) name_places();
@@ -247,6 +273,7 @@ const char *run_recorded(const struct wanted *wanted) {
     start_recorders();
     sigemptyset(&awaited);
     sigaddset(&awaited, SIGCHLD);
+    sigaddset(&awaited, SIGURG); /* of the collector */
     for (size_t i = 0; i < sizeof passed_on / sizeof *passed_on; i++)
         sigaddset(&awaited, passed_on[i]);
     blocked = awaited;

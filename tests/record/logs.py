@@ -44,7 +44,7 @@ def without_places(paths):
 def without_end(said):
     """Returns what pim-record says, but for a loss, how to see the report, and which programs have logs of their own."""
     ends = "|".join((".* is recorded; .*pim-report .* says who was held up", "programs that it started .*",
-                     "the log had no room for .*"))
+                     "the log (had|has) no room for .*"))
     return re.sub(rf"(?m)^pim-record: ({ends})\n", "", said)
 
 

@@ -3,6 +3,7 @@ import contextlib
 import os
 import pathlib
 import re
+import select
 import shutil
 import signal
 import subprocess
@@ -211,6 +212,19 @@ def calls_of_others(folder):
     return [counted(read(path), reader.GRANTED) for path in without_places(pathlib.Path(folder).glob("run.*"))]
 
 
+def begun_within(log):
+    """Returns how many chunks begin while their thread asks for a mutex or owns one, in a log of threads with one at a
+    time."""
+    last, is_within, count = {}, {}, 0
+    for record in log.records:
+        thread = record.chunk.thread
+        count += is_within.get(thread, False) and record.chunk.index != last[thread]
+        last[thread] = record.chunk.index
+        if record.event in (reader.REQUEST, reader.GRANTED, reader.RELEASE):
+            is_within[thread] = record.event != reader.RELEASE
+    return count
+
+
 class Collector(Case):
     def test_slots_are_used_again(self):
         """Slots are used again and again. The program touches no page, and has all of its records in the file."""
@@ -244,6 +258,25 @@ class Collector(Case):
         got = done.returncode, counted(log, reader.GRANTED), log.head.lost
         self.check("a flood of records", broken(log) or difference(got, (0, 2 * 2 * 30000, 0)))
 
+    def test_a_loss_is_said_as_it_happens(self):
+        """A line says that records are lost while the program still runs, once, whichever of its programs it is."""
+        program = PROGRAMS / "rounds", "pairs", CHUNK_RECORDS * 40  # a round takes 1.2 MB
+        said = "pim-record: the log has no room for what comes now: --size makes it larger, --last keeps the latest ones\n"
+        lost = r"pim-record: the log had no room for \d+ records: --size makes it larger, --last keeps the latest ones\n"
+        for name, command in ("the program", program), ("what it starts", ("sh", "-c", '"$@"; true', "sh", *program)):
+            own = pathlib.Path(self.folder, name)
+            own.mkdir()
+            running = Running(own, *command, options=["--size", "1"])
+            running.says("go")
+            is_there = bool(select.select([running.child.stderr], [], [], SECONDS)[0])
+            got = running.child.stderr.readline() if is_there else None
+            self.check(f"a loss of {name} is said as it happens", difference((got,), (said,)))
+            running.says("go")
+            out, err = running.child.communicate(timeout=SECONDS)
+            first = err.splitlines(True)[0]
+            self.check(f"a loss of {name} is said once, and at the end how much it is",
+                       None if said not in err and re.fullmatch(lost, first) else err)
+
     def test_while_the_collector_is_stopped_nothing_is_lost(self):
         """While the collector is stopped the program goes on in more memory, and nothing is lost."""
         pairs, times = CHUNK_RECORDS * 40, 4  # 320 chunks, of 256 slots
@@ -258,6 +291,30 @@ class Collector(Case):
         log = read(running.path)
         got = counted(log, reader.GRANTED), log.head.lost
         self.check("its log has each call", broken(log) or difference(got, (1 + pairs * (1 + times), 0)))
+
+    def test_no_chunk_begins_while_its_thread_owns_a_mutex(self):
+        """A thread takes its next chunk before it locks: while it owns a mutex, others would wait for that."""
+        for name, program in (("contended", ("locks", "20", "3", "1")), ("others", ("pair", "3000", "2"))):
+            path = pathlib.Path(self.folder, name)
+            done = run(RECORD / "pim-record", "-o", path, PROGRAMS / program[0], *program[1:])
+            log = read(path)
+            got = done.returncode, len(log.chunks) > 20, begun_within(log)
+            self.check(f"chunks of {name} locks", broken(log) or difference(got, (0, True, 0)))
+
+    def test_a_real_time_thread_finds_a_chunk_that_is_touched(self):
+        """Other threads leave chunks that are touched to those of a real-time priority."""
+        running = Running(self.folder, PROGRAMS / "rounds", "urgent", CHUNK_RECORDS * 150)  # 300 chunks, of 256 slots
+        if not running.says("go").isdigit():
+            running.end()
+            return self.skip("chunks of a real-time thread", "SCHED_FIFO isn't permitted")
+        collector = running.helper("pim-collector")
+        os.kill(collector, signal.SIGSTOP)
+        faults = [running.says("go") for _ in range(3)]
+        os.kill(collector, signal.SIGCONT)
+        running.end()
+        self.check("no call of a real-time thread touches a page first", difference(faults, ["0"] * 3))
+        log = read(running.path)
+        return self.check("the log is whole", broken(log) or (f"{log.head.lost} lost" if log.head.lost else None))
 
     def test_short_threads_share_chunks(self):
         """Threads that begin after others have ended use their chunks."""
