@@ -580,15 +580,7 @@ a file of 20 bytes, 5000 later: File too large
 """
 
 
-class Checks(Case):
-    def nothing(self, recording, name, status, why):
-        """Nothing ran, no file was made, and one line says why."""
-        said = recording.done.stderr
-        got = (recording.status, recording.done.stdout, recording.data, said.count("\n"), why in said)
-        self.check(f"with --kernel: {name}", difference(got, (status, "", None, 1, True)) and f"{got[:2]} {said!r}")
-
-
-class KernelEvents(Checks):
+class Traced(Case):
     def setUp(self):
         self.tracefs = Tracefs()
         self.addCleanup(self.tracefs.end)
@@ -602,6 +594,16 @@ class KernelEvents(Checks):
         until(lambda: not self.tracefs.own())
         self.assertEqual(self.tracefs.own(), [])
 
+
+class Checks(Case):
+    def nothing(self, recording, name, status, why):
+        """Nothing ran, no file was made, and one line says why."""
+        said = recording.done.stderr
+        got = (recording.status, recording.done.stdout, recording.data, said.count("\n"), why in said)
+        self.check(f"with --kernel: {name}", difference(got, (status, "", None, 1, True)) and f"{got[:2]} {said!r}")
+
+
+class KernelEvents(Checks, Traced):
     def test_boosts_are_those_of_POSIX(self):
         for command, wanted in BOOSTS.items():
             recording = Recording(self.folder, PROGRAMS / command.split()[0], *command.split()[1:])

@@ -16,8 +16,8 @@ from tests.cases import Case
 from tests.shared.checks import difference, ended, proc_text, stat_of, threads_of, until
 from tests.record.test_futex import differs, said_waits
 from tests.record.logs import setUpModule, without_end
-from tests.record.test_kernel import (PROGRAMS, RECORD, Tracefs, end_started, faults_of,
-                                      kernel_text, run, start)
+from tests.record.test_kernel import (PROGRAMS, RECORD, Traced, end_started, faults_of, kernel_text, run,
+                                      start)
 
 FUTEX = {"x86_64": 202, "aarch64": 98}  # the number of the call
 WAKE = 1
@@ -106,20 +106,7 @@ def files_of(folder):
     return {path.name: path.read_text() for path in pathlib.Path(folder).glob("none*")}
 
 
-class OfAProgramThatRuns(Case):
-    def setUp(self):
-        self.tracefs = Tracefs()
-        self.addCleanup(self.tracefs.end)
-        if self.tracefs.missing:
-            self.skipTest(self.tracefs.missing)
-        self.addCleanup(self.end_recordings)
-
-    def end_recordings(self):
-        """Ends what the test left, which leaves no instance."""
-        end_started()
-        until(lambda: not self.tracefs.own())
-        self.assertEqual(self.tracefs.own(), [])
-
+class OfAProgramThatRuns(Traced):
     def test_a_program_with_threads(self):
         """A program with threads, which waits and makes one more after the recording has begun, and goes on after it."""
         words = pathlib.Path(self.folder, "words")

@@ -365,27 +365,28 @@ class ToFacts(Case):
         missing = [word for word in words.split() if word not in self.converter.words]
         self.check("each word of facts is among these", f"no {missing}" if missing else None)
 
+    def agree(self, inputs, cases):
+        """Checks that pim-facts writes of each case what the plain implementation writes."""
+        differ = (f"{name}: {why}" for name, *given in cases if (why := self.converter.why(*given)))
+        self.check(f"pim-facts writes of {inputs} what the plain implementation writes", next(differ, None))
+
     def test_random_logs(self):
         """Random logs, of which each third is damaged, and random ones of waits for what isn't a mutex."""
-        differ = {}
+        cases = []
         for seed in range(FIRST_SEED, FIRST_SEED + LOGS):
             kinds = {"log": RandomLog(seed).data()} | ({} if seed % 3 else {"other": random_other_waits.random_log(seed)})
-            for kind, data in kinds.items():
-                why = self.converter.why(bytes(data))
-                differ.update({f"{kind} {seed}: {why}": why} if why else {})
-        self.check(f"pim-facts writes of {LOGS} random logs what the plain implementation writes", next(iter(differ), None))
+            cases += [(f"{kind} {seed}", bytes(data)) for kind, data in kinds.items()]
+        self.agree(f"{LOGS} random logs", cases)
 
     def test_random_logs_of_several_programs(self):
         """Random logs of programs that one started: those of odd seeds are of one version, and can be joined."""
-        differ = {}
+        cases = []
         for seed in range(FIRST_SEED, FIRST_SEED + LOGS, 2):
             logs = [bytes(RandomLog(seed + more).data()) for more in (0, *random.Random(seed).sample(range(4, 199, 4), 2))]
             texts = [f"{number} 0x401000 first.c:{number}\n- 0x5000 lock{number}\n".encode() for number in (1, 2, 3)]
             kernel = kernel_of(seed) if seed % 8 == 1 else None
-            why = self.converter.why(logs[0], texts[0], kernel, [*zip(logs[1:], texts[1:])])
-            differ.update({f"{seed}: {why}": why} if why else {})
-        self.check(f"pim-facts writes of {LOGS // 2} programs with those that they started what the plain implementation writes",
-                   next(iter(differ), None))
+            cases.append((seed, logs[0], texts[0], kernel, [*zip(logs[1:], texts[1:])]))
+        self.agree(f"{LOGS // 2} programs with those that they started", cases)
 
     def test_more_places_than_a_record_has_numbers_for(self):
         """Nine logs have more places than a record has numbers for."""
@@ -399,15 +400,12 @@ class ToFacts(Case):
 
     def test_random_events(self):
         """Random events of the kernel, alone and of the time of a random log. Most break laws of their form."""
-        differ = {}
+        cases = []
         for seed in range(FIRST_SEED, FIRST_SEED + TEXTS):
             kinds = {"alone": None, "of a log": RandomLog(seed).data(),
                      "of other waits": random_other_waits.random_log(seed)}
-            for kind, data in kinds.items():
-                why = self.converter.why(data and bytes(data), None, kernel_of(seed))
-                differ.update({f"{kind} {seed}: {why}": why} if why else {})
-        self.check(f"pim-facts writes of {TEXTS} random texts of the kernel's events what the plain implementation writes",
-                   next(iter(differ), None))
+            cases += [(f"{kind} {seed}", data and bytes(data), None, kernel_of(seed)) for kind, data in kinds.items()]
+        self.agree(f"{TEXTS} random texts of the kernel's events", cases)
 
     def test_command_line_and_files(self):
         """What the command line and files that can't be used lead to."""
