@@ -183,7 +183,9 @@ struct cursor {
     uint32_t lost;       /* records for which there was no room, and that it doesn't count yet */
     uint64_t number;     /* of the last record, if numbers are times */
     uint64_t slot;       /* of the chunk */
+    uint16_t priority;  /* as the detail of a PRIORITY, by its own calls and looks */
     bool is_real_time;
+    bool has_ceiling;   /* it was granted a PROTECT mutex: its priority may be a ceiling */
     bool is_introduced; /* its THREAD record is written, or is being written */
     bool is_behind;      /* there are such grants or such calls */
     volatile bool is_writing;
