@@ -118,7 +118,8 @@ struct chunk_head {
     _Atomic uint64_t place; /* of a first head in memory: the place in the file, from 1 on; else 0 */
 };
 
-/* Added to the place once the thread puts no more records there: it has no other chunk, or it has. */
+/* Added to the place once the thread puts no more records there: it has no other chunk, or it
+ * has. */
 #define CHUNK_IS_CLOSED (UINT64_C(1) << 63)
 #define CHUNK_HAS_NEXT (UINT64_C(1) << 62)
 #define CHUNK_PLACE (CHUNK_HAS_NEXT - 1)
