@@ -118,7 +118,8 @@ struct chunk_head {
     _Atomic uint64_t place; /* of a first head in memory: the place in the file, from 1 on; else 0 */
 };
 
-/* Added to the place once the thread puts no more records there: it has no other chunk, or it has. */
+/* Added to the place once the thread puts no more records there: it has no other chunk, or it
+ * has. */
 #define CHUNK_IS_CLOSED (UINT64_C(1) << 63)
 #define CHUNK_HAS_NEXT (UINT64_C(1) << 62)
 #define CHUNK_PLACE (CHUNK_HAS_NEXT - 1)
@@ -183,7 +184,9 @@ struct cursor {
     uint32_t lost;       /* records for which there was no room, and that it doesn't count yet */
     uint64_t number;     /* of the last record, if numbers are times */
     uint64_t slot;       /* of the chunk */
+    uint16_t priority;  /* as the detail of a PRIORITY, by its own calls and looks */
     bool is_real_time;
+    bool has_ceiling;   /* it was granted a PROTECT mutex: its priority may be a ceiling */
     bool is_introduced; /* its THREAD record is written, or is being written */
     bool is_behind;      /* there are such grants or such calls */
     volatile bool is_writing;

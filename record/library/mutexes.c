@@ -78,10 +78,12 @@ static void put_answer(const pthread_mutex_t *mutex, enum call call, const uintp
     struct record record = is_granted ? of_mutex(EVENT_GRANTED, call, mutex)
                                       : of_address(EVENT_FAILED, (unsigned)error, mutex);
     if (error == EOWNERDEAD) record.how |= OWNER_DIED;
+    if (record.detail & DETAIL_PROTECT) log_cursor.has_ceiling = true;
     record.time = time;
     record.value = log_saturated(time - began);
     log_write(places_at(caller, record));
     log_end();
+    thread_took(time - began);
 }
 
 /* Returns whether an answer isn't to be put, or not yet: nobody has waited. */
@@ -173,9 +175,11 @@ EXPORT int pthread_mutex_unlock(pthread_mutex_t *mutex) {
 struct wait {
     const pthread_mutex_t *mutex;
     const uintptr_t *caller;
+    uint64_t began;
 };
 
-static void release_to_wait(const pthread_cond_t *condition, const struct wait *of) {
+static void release_to_wait(const pthread_cond_t *condition, struct wait *of) {
+    of->began = clock_time();
     struct record wait = { .event = EVENT_CONDITION, .object = (uintptr_t)condition };
     struct record release = of_mutex(EVENT_RELEASE, CALL_CONDITION, of->mutex);
     log_put_both(places_at(of->caller, wait), places_at(of->caller, release));
@@ -194,6 +198,7 @@ static int relocked(const struct wait *of, int error) {
     else
         record = of_address(EVENT_RELEASE_FAILED, (unsigned)error, of->mutex);
     places_put(of->caller, record);
+    thread_took(clock_time() - of->began);
     return error;
 }
 
@@ -203,7 +208,7 @@ static void cancelled(void *wait) {
 }
 
 EXPORT int pthread_cond_wait(pthread_cond_t *condition, pthread_mutex_t *mutex) {
-    struct wait wait = { mutex, CALLER };
+    struct wait wait = { mutex, CALLER, 0 };
     int error;
     if (!is_recorded()) return real.cond_wait(condition, mutex);
     release_to_wait(condition, &wait);
@@ -215,7 +220,7 @@ EXPORT int pthread_cond_wait(pthread_cond_t *condition, pthread_mutex_t *mutex) 
 
 EXPORT int pthread_cond_timedwait(pthread_cond_t *condition, pthread_mutex_t *mutex,
                                   const struct timespec *until) {
-    struct wait wait = { mutex, CALLER };
+    struct wait wait = { mutex, CALLER, 0 };
     int error;
     if (!is_recorded()) return real.cond_timedwait(condition, mutex, until);
     release_to_wait(condition, &wait);
@@ -227,7 +232,7 @@ EXPORT int pthread_cond_timedwait(pthread_cond_t *condition, pthread_mutex_t *mu
 
 EXPORT int pthread_cond_clockwait(pthread_cond_t *condition, pthread_mutex_t *mutex,
                                   clockid_t clock, const struct timespec *until) {
-    struct wait wait = { mutex, CALLER };
+    struct wait wait = { mutex, CALLER, 0 };
     int error;
     if (!is_recorded()) return real.cond_clockwait(condition, mutex, clock, until);
     release_to_wait(condition, &wait);

@@ -21,6 +21,16 @@ void recorder_start(void);
 /* Puts the calling thread's first records: its priority and its name. */
 void thread_introduce(void);
 
+/* Puts the calling thread's priority if it is another one than before: another process may set it,
+ * and no call of the program says so. */
+void thread_look(void);
+
+/* Says for how long a call of the thread took. The thread looks after a long one. */
+static inline void thread_took(uint64_t nanoseconds) {
+    const uint64_t is_long = 1000000;
+    if (__builtin_expect(nanoseconds > is_long, 0)) thread_look();
+}
+
 /* Makes the key whose destructor tells of a thread's end. */
 void thread_make_key(void);
 

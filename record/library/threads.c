@@ -46,9 +46,10 @@ void thread_introduce(void) {
     if (is_asked) sched_getparam(0, &param);
     if (is_asked) prctl(PR_GET_NAME, name);
     if (is_asked) log_is_real_time(is_real_time(policy));
+    log_cursor.priority = detail_of_priority(policy, param.sched_priority);
     log_put((struct record){ .event = EVENT_THREAD,
                              .object = (uint64_t)pthread_self(),
-                             .detail = detail_of_priority(policy, param.sched_priority) });
+                             .detail = log_cursor.priority });
     if (is_asked) put_name(pthread_self(), name);
     if (has_exit_key) pthread_setspecific(exit_key, &log_cursor);
     log_cursor.depth--;
@@ -138,10 +139,11 @@ static void put_priority(uint64_t target, uint32_t task, int policy, int priorit
         log_is_real_time(is_real_time(policy));
     else if (is_set && is_real_time(policy))
         log_has_real_time();
-    log_put((struct record){ .event = EVENT_PRIORITY,
-                             .object = target,
-                             .value = task,
-                             .detail = detail_of_priority(policy, priority) });
+    uint16_t detail = detail_of_priority(policy, priority);
+    if (is_own && is_set) log_cursor.priority = detail;
+    if (is_own && !is_set) log_cursor.priority = (detail & 0xff00) | (log_cursor.priority & 15);
+    log_put((struct record){
+        .event = EVENT_PRIORITY, .object = target, .value = task, .detail = detail });
 }
 
 EXPORT int pthread_setschedparam(pthread_t thread, int policy, const struct sched_param *param) {
@@ -157,6 +159,18 @@ EXPORT int pthread_setschedprio(pthread_t thread, int priority) {
     int error = real.setschedprio(thread, priority);
     if (error == 0 && is_told) put_priority((uint64_t)thread, 0, POLICY_KEPT, priority);
     return error;
+}
+
+void thread_look(void) {
+    struct sched_param param = { .sched_priority = 0 };
+    int error = errno;
+    bool is_told = inner_known & KNOWN_KIND && !log_cursor.has_ceiling; /* else it isn't its own */
+    if (!is_told || atomic_load(&log_is_quiet)) return;
+    int policy = sched_getscheduler(0);
+    sched_getparam(0, &param);
+    if (detail_of_priority(policy, param.sched_priority) != log_cursor.priority)
+        put_priority(0, log_cursor.task, policy, param.sched_priority);
+    errno = error;
 }
 
 static uint32_t task_of(pid_t task) {

@@ -43,6 +43,7 @@ static int end_wait(const struct wait *wait, int error) {
                                .detail = (uint16_t)wait->kind,
                                .time = time });
     log_end();
+    thread_took(time - wait->began);
     return error;
 }
 

@@ -1,8 +1,8 @@
 /* rounds pairs COUNT: for each line of standard input, a thread locks and unlocks a mutex COUNT
  * times, and prints how many page faults it had in that. rounds threads COUNT: for each line,
  * COUNT threads lock and unlock the mutex once, one by one. rounds processes COUNT: so do COUNT
- * processes. rounds urgent COUNT: for each line, a thread makes COUNT pairs, and then another one, at
- * SCHED_FIFO, makes 1,000 and prints how many page faults it had in those. */
+ * processes. rounds urgent COUNT: for each line, a thread makes COUNT pairs, and then another one,
+ * at SCHED_FIFO, makes 1,000 and prints how many page faults it had in those. */
 #define _GNU_SOURCE
 #include "common.h"
 

@@ -7,6 +7,7 @@ import select
 import shutil
 import signal
 import subprocess
+import time
 
 from tests.cases import Case
 from tests.shared.checks import (ROOT, SECONDS, children_of, difference, ended, is_gone, orphan_of,
@@ -315,6 +316,26 @@ class Collector(Case):
         self.check("no call of a real-time thread touches a page first", difference(faults, ["0"] * 3))
         log = read(running.path)
         return self.check("the log is whole", broken(log) or (f"{log.head.lost} lost" if log.head.lost else None))
+
+    def test_a_priority_that_another_process_sets(self):
+        """A thread looks at its priority after a wait of more than a millisecond, unless that may be a ceiling."""
+        running = Running(self.folder, PROGRAMS / "levels")
+        said = running.child.stdout.readline().strip()
+        if not said.isdigit():
+            running.end()
+            return self.skip("a priority that another process sets", said)
+        task = int(said)
+        for level in (11, 12, 13, None):
+            if level:
+                os.sched_setscheduler(task, os.SCHED_FIFO, os.sched_param(level))
+            slept = time.monotonic()
+            until(lambda: time.monotonic() > slept + 0.002)  # the wait is a long one by then
+            running.says("go")
+        running.end()
+        log = read(running.path)
+        found = [(it.chunk.task, it.value, it.detail) for it in log.records if it.event == reader.PRIORITY and it.value]
+        wanted = [(task, task, 1 | level << 8) for level in (11, 12, 13)]
+        return self.check("a priority that another process sets", broken(log) or difference((found,), (wanted,)))
 
     def test_short_threads_share_chunks(self):
         """Threads that begin after others have ended use their chunks."""
