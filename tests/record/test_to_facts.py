@@ -340,6 +340,11 @@ class ToFacts(Case):
     def setUpClass(cls):
         cls.converter = Converter(temporary_folder(cls.addClassCleanup))
 
+    def agree(self, what, recordings):
+        """Checks that pim-facts and the plain implementation write the same of recordings, which have names."""
+        differ = (f"{name}: {why}" for name, recording in recordings if (why := self.converter.why(*recording)))
+        self.check(f"pim-facts writes of {what} what the plain implementation writes", next(differ, None))
+
     def test_logs_by_hand(self):
         for name, (log, wanted, *events) in BY_HAND.items():
             lines = [line.strip() for line in events[0].strip().splitlines()] if events else []
@@ -365,28 +370,23 @@ class ToFacts(Case):
         missing = [word for word in words.split() if word not in self.converter.words]
         self.check("each word of facts is among these", f"no {missing}" if missing else None)
 
-    def agree(self, inputs, cases):
-        """Checks that pim-facts writes of each case what the plain implementation writes."""
-        differ = (f"{name}: {why}" for name, *given in cases if (why := self.converter.why(*given)))
-        self.check(f"pim-facts writes of {inputs} what the plain implementation writes", next(differ, None))
-
     def test_random_logs(self):
         """Random logs, of which each third is damaged, and random ones of waits for what isn't a mutex."""
-        cases = []
-        for seed in range(FIRST_SEED, FIRST_SEED + LOGS):
-            kinds = {"log": RandomLog(seed).data()} | ({} if seed % 3 else {"other": random_other_waits.random_log(seed)})
-            cases += [(f"{kind} {seed}", bytes(data)) for kind, data in kinds.items()]
-        self.agree(f"{LOGS} random logs", cases)
+        seeds = range(FIRST_SEED, FIRST_SEED + LOGS)
+        self.agree(f"{LOGS} random logs", ((f"log {seed}", [bytes(RandomLog(seed).data())]) for seed in seeds))
+        self.agree("random waits for what isn't a mutex",
+                   ((f"log {seed}", [bytes(random_other_waits.random_log(seed))]) for seed in seeds if seed % 3 == 0))
 
     def test_random_logs_of_several_programs(self):
         """Random logs of programs that one started: those of odd seeds are of one version, and can be joined."""
-        cases = []
-        for seed in range(FIRST_SEED, FIRST_SEED + LOGS, 2):
+        def recording(seed):
             logs = [bytes(RandomLog(seed + more).data()) for more in (0, *random.Random(seed).sample(range(4, 199, 4), 2))]
             texts = [f"{number} 0x401000 first.c:{number}\n- 0x5000 lock{number}\n".encode() for number in (1, 2, 3)]
             kernel = kernel_of(seed) if seed % 8 == 1 else None
-            cases.append((seed, logs[0], texts[0], kernel, [*zip(logs[1:], texts[1:])]))
-        self.agree(f"{LOGS // 2} programs with those that they started", cases)
+            return logs[0], texts[0], kernel, [*zip(logs[1:], texts[1:])]
+
+        self.agree(f"{LOGS // 2} programs with those that they started",
+                   ((seed, recording(seed)) for seed in range(FIRST_SEED, FIRST_SEED + LOGS, 2)))
 
     def test_more_places_than_a_record_has_numbers_for(self):
         """Nine logs have more places than a record has numbers for."""
@@ -400,12 +400,11 @@ class ToFacts(Case):
 
     def test_random_events(self):
         """Random events of the kernel, alone and of the time of a random log. Most break laws of their form."""
-        cases = []
-        for seed in range(FIRST_SEED, FIRST_SEED + TEXTS):
-            kinds = {"alone": None, "of a log": RandomLog(seed).data(),
-                     "of other waits": random_other_waits.random_log(seed)}
-            cases += [(f"{kind} {seed}", data and bytes(data), None, kernel_of(seed)) for kind, data in kinds.items()]
-        self.agree(f"{TEXTS} random texts of the kernel's events", cases)
+        logs = {"alone": lambda _: None, "of a log": lambda seed: bytes(RandomLog(seed).data()),
+                "of other waits": lambda seed: bytes(random_other_waits.random_log(seed))}
+        for kind, log in logs.items():
+            self.agree(f"{TEXTS} random texts of the kernel's events {kind}",
+                       ((seed, [log(seed), None, kernel_of(seed)]) for seed in range(FIRST_SEED, FIRST_SEED + TEXTS)))
 
     def test_command_line_and_files(self):
         """What the command line and files that can't be used lead to."""
