@@ -218,9 +218,10 @@ APART void second(void) { first(); steps++; }
 APART void third(void) { second(); steps++; }
 APART void fourth(void) { third(); steps++; }
 APART void fifth(void) { fourth(); steps++; }
+APART void sixth(void) { fifth(); steps++; }
 static void *ask(void *unused) {
     pthread_mutex_lock(&lock);
-    for (int i = 0; i < 6000; i++) fifth();
+    for (int i = 0; i < 6000; i++) sixth();
     return unused;
 }
 int main(void) {
@@ -415,7 +416,7 @@ class Stacks(Case):
         first = next(record.event for record in records if record.event not in (reader.THREAD, reader.NAME))
         sizes = {len(stack) for stack in stacks_of(log)[thread]}
         self.check("the latest stacks", broken(log) or difference(
-            (log.head.dropped > 0, reader.NAMES[first], sizes), (True, "failed", {6})))
+            (log.head.dropped > 0, reader.NAMES[first], sizes), (True, "failed", {7})))
 
     def test_a_frame_without_room_for_its_place(self):
         """A frame for whose place there is no room is put without, and counted."""
