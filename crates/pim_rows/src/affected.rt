@@ -16,10 +16,11 @@ use crate::open_waits::OpenWaits;
 use pim_fact_lines::{Line, What};
 use pim_waits::ThreadPlace;
 use pim_world::World;
-use std::alloc::{AllocError, Global};
+use std::alloc::AllocError;
 
-/// Returns the threads of which something else may hold after a line than before, if they wait.
-/// Takes the world after it, and the waits that are kept, as they were before it.
+/// Puts in a list, in place of what it had, the threads of which something else may hold after a
+/// line than before, if they wait. Takes the world after it, and the waits that are kept, as they
+/// were before it.
 ///
 /// A line affects the threads that it touches. What the kernel does affects a thread only while it
 /// is inverted. A declaration, and a line of an object, affect all.
@@ -27,35 +28,36 @@ use std::alloc::{AllocError, Global};
 /// # Errors
 ///
 /// Returns `AllocError` if out of memory.
-pub(crate) fn affected(
-    alloc: Global,
+pub(crate) fn put_affected(
+    threads: &mut Vec<ThreadPlace>,
     world: &World,
     line: &Line,
     opens: &OpenWaits,
-) -> Result<Vec<ThreadPlace>, AllocError>
-    ensures { IfOk result (λ threads.
+) -> Result<(), AllocError>
+    ensures { IfOk result (λ _.
         (ms : List Moment) → world_of world.now ≡ after (now ms) line.now → AreWaits (now ms)
         → (declares line.now ≡ false
         → Touches (now ms).state (world_of world.now).state [] (touched_of world.now))
         → AreOpen opens.now.opens.items ms
-        → AreSame (now ms) (after (now ms) line.now) threads.items) }
+        → AreSame (now ms) (after (now ms) line.now) threads.new.items) }
 {
+    threads.clear();
     if affects_all(line) {
-        let threads = all_threads(alloc, world)?;
-        return Ok(threads);
+        put_all_threads(threads, world)?;
+        return Ok(());
     }
     if keeps_rest(line) && world.kernel().is_idle() {
-        let threads = touched(alloc, world)?;
-        return Ok(threads);
+        put_touched(threads, world)?;
+        return Ok(());
     }
-    let inverted = opens.inverted(alloc)?;
-    let threads = with_touched(world, inverted)?;
-    Ok(threads)
+    opens.put_inverted(threads)?;
+    put_touched(threads, world)?;
+    Ok(())
 }
 
 /// Returns whether a line declares a thread or a mutex, or a thread is blocked by it, or isn't any
 /// more.
-fn affects_all(line: &Line) -> bool
+pub fn affects_all(line: &Line) -> bool
     ensures { result ≡ affects_all line.now }
 {
     match line {
@@ -94,38 +96,28 @@ fn is_of_object(what: &What) -> bool
     }
 }
 
-/// Returns these threads, and after them those that the last line touched.
-fn with_touched(
-    world: &World,
-    mut threads: Vec<ThreadPlace>,
-) -> Result<Vec<ThreadPlace>, AllocError>
-    ensures { IfOk result (λ all. all.items ≡ threads.items ++ touched_of world.now) }
+/// Appends the threads that the last line touched.
+fn put_touched(threads: &mut Vec<ThreadPlace>, world: &World) -> Result<(), AllocError>
+    ensures { IfOk result (λ _. threads.new.items ≡ threads.old.items ++ touched_of world.now) }
 {
-    threads.extend_from_slice(world.touched())?;
-    Ok(threads)
+    threads.extend_from_slice(world.touched())
 }
 
-/// Returns the threads that the last line touched.
-fn touched(alloc: Global, world: &World) -> Result<Vec<ThreadPlace>, AllocError>
-    ensures { IfOk result (λ threads. threads.items ≡ touched_of world.now) }
+/// Appends all threads.
+///
+/// # Errors
+///
+/// Returns `AllocError` if out of memory.
+pub fn put_all_threads(threads: &mut Vec<ThreadPlace>, world: &World) -> Result<(), AllocError>
+    ensures { IfOk result (λ _.
+        (t : ℕ) → IsTask (world_of world.now).state t → contains threads.new.items t ≡ true) }
 {
-    let mut threads = Vec::new(alloc);
-    threads.extend_from_slice(world.touched())?;
-    Ok(threads)
-}
-
-/// Returns all threads.
-fn all_threads(alloc: Global, world: &World) -> Result<Vec<ThreadPlace>, AllocError>
-    ensures { IfOk result (λ threads.
-        (t : ℕ) → IsTask (world_of world.now).state t → contains threads.items t ≡ true) }
-{
-    let mut threads = Vec::new(alloc);
     for index in 0..world.waits().threads() {
         let Ok(()) = threads.push(ThreadPlace(index + 1)) else {
             return Err(AllocError);
         };
     }
-    Ok(threads)
+    Ok(())
 }
 
 /// Returns whether a line is of mutexes or levels, or says nothing of any thread.

@@ -35,6 +35,7 @@ mod off_times;
 mod open_wait;
 mod open_waits;
 mod row;
+mod row_table;
 mod rows_text;
 mod run_changes;
 mod run_start;
@@ -49,16 +50,19 @@ mod wait_rows;
 mod wait_start;
 mod wait_starts;
 
+pub use affected::{affects_all, put_all_threads};
 pub use deadlocks::{by_number, put_deadlocks};
 pub use findings::{Findings, findings_of};
 pub use laws::{
     bounds_law, deadlock_law, inversion_law, order_law, section_owner_law, section_times_law,
     sums_law,
 };
-pub use nest_table::{NestTable, Nests, put_nests};
+pub use lines::{actor, locked_mutex};
+pub use nest_table::{Nests, add_nest, put_nests};
 pub use open_wait::OpenWait;
 pub use row::Word;
-pub use rows_text::put_row;
-pub use section_table::{Section, SectionTable, Sections, TableKey, put_sections};
+pub use row_table::RowTable;
+pub use rows_text::{put_number, put_row};
+pub use section_table::{Section, Sections, add_section, put_sections};
 pub use table::Times;
 pub use tally::Tally;

@@ -10,7 +10,7 @@ use pim_waits::{MutexPlace, ThreadPlace};
 use pim_world::World;
 
 /// Returns the thread of a line, or `None` if it has none. Takes the world before it.
-pub(crate) fn actor(world: &World, line: &Line) -> Option<ThreadPlace>
+pub fn actor(world: &World, line: &Line) -> Option<ThreadPlace>
     ensures { result ≡ actor (world_of world.now) line.now }
 {
     match line {
@@ -34,7 +34,7 @@ pub(crate) fn actor(world: &World, line: &Line) -> Option<ThreadPlace>
 
 /// Returns the mutex that a line locks or releases, or `None` if it does neither. Takes the world
 /// before it.
-pub(crate) fn locked_mutex(world: &World, line: &Line) -> Option<MutexPlace>
+pub fn locked_mutex(world: &World, line: &Line) -> Option<MutexPlace>
     ensures { result ≡ mutex_of (world_of world.now) line.now }
 {
     match line {

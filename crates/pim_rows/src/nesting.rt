@@ -13,7 +13,8 @@ ghost use Rattle.pim_rows.specs.Kept.{kept_of};
 ghost use Rattle.pim_rows.specs.Kept.{AreStarts};
 
 use crate::grants::Grants;
-use crate::nest_table::NestTable;
+use crate::nest_table::{Nests, add_nest};
+use crate::row_table::RowTable;
 use pim_waits::{MutexPlace, ThreadPlace};
 use pim_world::World;
 use std::alloc::AllocError;
@@ -25,7 +26,7 @@ use std::alloc::AllocError;
 ///
 /// Returns `AllocError` if out of memory.
 pub(crate) fn put_nests(
-    table: &mut NestTable,
+    table: &mut RowTable<Nests>,
     world: &World,
     thread: Option<ThreadPlace>,
     asked: Option<MutexPlace>,
@@ -51,7 +52,7 @@ pub(crate) fn put_nests(
 
 /// Puts the requests of a thread for a mutex, within each of its sections.
 fn put_nests_of(
-    table: &mut NestTable,
+    table: &mut RowTable<Nests>,
     world: &World,
     thread: ThreadPlace,
     mutex: MutexPlace,
@@ -76,7 +77,7 @@ fn put_nests_of(
 
 /// Puts the request of a thread for a mutex within its section at the outer one.
 fn put_nest(
-    table: &mut NestTable,
+    table: &mut RowTable<Nests>,
     world: &World,
     thread: ThreadPlace,
     mutex: MutexPlace,
@@ -95,7 +96,8 @@ fn put_nest(
         world.mutex_number(outer),
         world.mutex_number(mutex),
     );
-    table.put(key, grants.line_of(world, outer), line)?;
+    let taken = grants.line_of(world, outer);
+    add_nest(table, key, taken, line)?;
     Ok(())
 }
 

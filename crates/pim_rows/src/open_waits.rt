@@ -82,19 +82,18 @@ impl OpenWaits {
         Ok(None)
     }
 
-    /// Returns the threads that are inverted.
+    /// Appends the threads that are inverted.
     ///
     /// # Errors
     ///
     /// Returns `AllocError` if out of memory.
-    pub(crate) fn inverted(&self, alloc: Global) -> Result<Vec<ThreadPlace>, AllocError>
-        ensures { IfOk result (λ threads. AreInverted threads.items self.now.opens.items) }
+    pub(crate) fn put_inverted(&self, threads: &mut Vec<ThreadPlace>) -> Result<(), AllocError>
+        ensures { IfOk result (λ _. AreInverted threads.new.items self.now.opens.items) }
     {
-        let mut threads = Vec::new(alloc);
         for index in 0..self.opens.len() {
-            self.note(index, &mut threads)?;
+            self.note(index, threads)?;
         }
-        Ok(threads)
+        Ok(())
     }
 
     /// Appends the thread whose wait is at one place, if it is inverted.

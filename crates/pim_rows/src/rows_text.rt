@@ -22,7 +22,11 @@ pub fn put_row(out: &mut Vec<u8>, word: Word, numbers: &[u64]) -> Result<(), All
 }
 
 /// Appends a space and a number in decimal digits.
-fn put_number(out: &mut Vec<u8>, number: u64) -> Result<(), AllocError>
+///
+/// # Errors
+///
+/// Returns `AllocError` if out of memory.
+pub fn put_number(out: &mut Vec<u8>, number: u64) -> Result<(), AllocError>
     ensures { IfOk result (λ _. out.new.items ≡ out.old.items ++ 32 ∷ decimal number) }
 {
     let mut digits = itoa::Buffer::new();

@@ -1,22 +1,16 @@
 //! The sections of threads at mutexes.
 
-ghost use Rattle.std.specs.Prelude.{◌≡◌, ◌++◌, [], map, Some, None, IfOk};
-ghost use Rattle.std.specs.BTreeMap.{insert_entry, is_at};
-ghost use Rattle.std.specs.List.Sorted.{IsStrictlySortedBy};
-ghost use Rattle.std.specs.Map.{keys_of, lookup};
+ghost use Rattle.std.specs.Prelude.{◌≡◌, ◌++◌, map, Some, None, IfOk};
 ghost use Rattle.pim_rows.specs.Found.{with_section};
-ghost use Rattle.pim_rows.specs.Tables.{key_cmp};
 ghost use Rattle.pim_rows.specs.Rows.{section_row, text_of};
 ghost use Rattle.pim_rows.specs.Tables.{change};
 
 use crate::row::Word;
+use crate::row_table::RowTable;
 use crate::rows_text::put_row;
-use std::alloc::{AllocError, Global};
-use std::collections::BTreeMap;
+use pim_world::Key;
+use std::alloc::AllocError;
 use std::marker::Model;
-
-/// Three numbers by which rows are ordered.
-pub type TableKey = (u64, u64, u64);
 
 /// An ownership of a mutex by a thread.
 #[derive(Clone, Copy)]
@@ -97,7 +91,7 @@ impl Sections {
     }
 
     /// Returns the numbers of their row.
-    fn numbers(self, key: TableKey) -> [u64; 7]
+    fn numbers(self, key: Key) -> [u64; 7]
         ensures { result ≡ (section_row (key, self)).numbers }
     {
         [
@@ -112,66 +106,22 @@ impl Sections {
     }
 }
 
-/// By thread, mutex and level the sections so far.
+/// Adds a section of a thread at a mutex at a level, which are the numbers of the key.
 ///
-/// In contracts its value is the table, in ascending order of the keys.
-#[derive(Drop)]
-pub struct SectionTable {
-    pub(crate) rows: BTreeMap<TableKey, Sections>,
-}
-
-impl Model for SectionTable {
-    ghost use Rattle.pim_rows.specs.Tables.{Table};
-    ghost use Rattle.pim_rows.specs.Found as spec;
-
-    ghost Value = { Table spec.Sections };
-
-    ghost view = { λ t. t.rows.entries };
-}
-
-impl SectionTable {
-    /// Returns a table without sections.
-    pub fn new(alloc: Global) -> SectionTable
-        ensures { result ≡ [] }
-    {
-        SectionTable {
-            rows: BTreeMap::new(alloc),
-        }
-    }
-
-    /// Adds a section of a thread at a mutex at a level, which are the numbers of the key.
-    ///
-    /// # Errors
-    ///
-    /// Returns `AllocError` if out of memory, or if the key has 2^64 - 1 sections.
-    pub fn put(&mut self, key: TableKey, section: Section) -> Result<(), AllocError>
-        ensures { IfOk result (λ _. self.new ≡ change key (with_section section) self.old) }
-    {
-        let had = self.get(key);
-        let all = with(had, section)?;
-        self.set(key, all)?;
-        Ok(())
-    }
-
-    /// Returns the sections of a key, if it has any.
-    fn get(&self, key: TableKey) -> Option<Sections>
-        ensures value { result ≡ lookup (is_at (key_cmp key)) self.now }
-        ensures ascending { IsStrictlySortedBy key_cmp (keys_of self.now) }
-    {
-        // The call says that the keys ascend.
-        let _len = self.rows.len();
-        self.rows.get(&key).copied()
-    }
-
-    /// Puts the sections of a key.
-    fn set(&mut self, key: TableKey, sections: Sections) -> Result<(), AllocError>
-        ensures { IfOk result (λ _. self.new ≡ insert_entry key_cmp self.old key sections) }
-    {
-        match self.rows.insert(key, sections) {
-            Ok(_) => Ok(()),
-            Err(_) => Err(AllocError),
-        }
-    }
+/// # Errors
+///
+/// Returns `AllocError` if out of memory, or if the key has 2^64 - 1 sections.
+pub fn add_section(
+    table: &mut RowTable<Sections>,
+    key: Key,
+    section: Section,
+) -> Result<(), AllocError>
+    ensures { IfOk result (λ _. table.new ≡ change key (with_section section) table.old) }
+{
+    let had = table.get(key);
+    let all = with(had, section)?;
+    table.set(key, all)?;
+    Ok(())
 }
 
 /// Returns the sections with one more.
@@ -193,7 +143,7 @@ fn with(had: Option<Sections>, section: Section) -> Result<Sections, AllocError>
 /// # Errors
 ///
 /// Returns `AllocError` if out of memory.
-pub fn put_sections(out: &mut Vec<u8>, table: &SectionTable) -> Result<(), AllocError>
+pub fn put_sections(out: &mut Vec<u8>, table: &RowTable<Sections>) -> Result<(), AllocError>
     ensures { IfOk result
         (λ _. out.new.items ≡ out.old.items ++ text_of (map section_row table.now)) }
 {

@@ -16,7 +16,8 @@ ghost use Rattle.pim_rows.specs.Kept.{AreStarts};
 use crate::grant::Grant;
 use crate::grants::Grants;
 use crate::off_times::OffTimes;
-use crate::section_table::{Section, SectionTable};
+use crate::row_table::RowTable;
+use crate::section_table::{Section, Sections, add_section};
 use pim_waits::{MutexPlace, ThreadPlace};
 use pim_world::World;
 use std::alloc::AllocError;
@@ -29,7 +30,7 @@ use std::alloc::AllocError;
 ///
 /// Returns `AllocError` if out of memory.
 pub(crate) fn end_section(
-    table: &mut SectionTable,
+    table: &mut RowTable<Sections>,
     world: &World,
     mutex: Option<MutexPlace>,
     was: bool,
@@ -63,7 +64,7 @@ pub(crate) fn end_section(
 ///
 /// Returns `AllocError` if out of memory.
 pub(crate) fn put_lasting_sections(
-    table: &mut SectionTable,
+    table: &mut RowTable<Sections>,
     world: &World,
     grants: &Grants,
     off_times: &OffTimes,
@@ -81,7 +82,7 @@ pub(crate) fn put_lasting_sections(
 
 /// Puts the section at a mutex, if it is owned.
 fn put_lasting_section(
-    table: &mut SectionTable,
+    table: &mut RowTable<Sections>,
     world: &World,
     mutex: MutexPlace,
     grants: &Grants,
@@ -102,7 +103,7 @@ fn put_lasting_section(
 /// Puts the section at a mutex, which lasts or ended with the newest line. Takes the world after
 /// that.
 fn put_section(
-    table: &mut SectionTable,
+    table: &mut RowTable<Sections>,
     world: &World,
     mutex: MutexPlace,
     grants: &Grants,
@@ -117,10 +118,8 @@ fn put_section(
         return Ok(());
     };
     let section = section_of(grant, world, off_times);
-    table.put(
-        (grant.thread, world.mutex_number(mutex), grant.level),
-        section,
-    )?;
+    let key = (grant.thread, world.mutex_number(mutex), grant.level);
+    add_section(table, key, section)?;
     Ok(())
 }
 

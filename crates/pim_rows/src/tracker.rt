@@ -14,7 +14,7 @@ ghost use Rattle.pim_rows.specs.OffTimes.{AreOffTimes};
 ghost use Rattle.pim_world.specs.Texts.{line_after};
 ghost use Rattle.pim_rows.specs.Tracking.{Tracks, HasTaken};
 
-use crate::affected::affected;
+use crate::affected::put_affected;
 use crate::before::Before;
 use crate::blocks::Blocks;
 use crate::deadlocks::{by_number, put_deadlocks};
@@ -24,15 +24,16 @@ use crate::grants::Grants;
 use crate::lasting::{put_lasting_blocks, put_lasting_waits};
 use crate::levels::Levels;
 use crate::lines::{actor, asked_mutex, locked_mutex};
-use crate::nest_table::{NestTable, put_nests as put_nest_rows};
+use crate::nest_table::{Nests, put_nests as put_nest_rows};
 use crate::nesting::put_nests;
 use crate::off_times::OffTimes;
 use crate::open_waits::OpenWaits;
 use crate::row::Word;
+use crate::row_table::RowTable;
 use crate::rows_text::put_row;
 use crate::run_changes::{changed, levels_of_all, may_run, moved};
 use crate::runs::{RunLevels, Runs};
-use crate::section_table::{SectionTable, put_sections};
+use crate::section_table::{Sections, put_sections};
 use crate::sections::{end_section, put_lasting_sections};
 use crate::wait_starts::WaitStarts;
 use pim_fact_lines::Line;
@@ -48,13 +49,15 @@ pub(crate) struct Tracker {
     number: u64,
     starts: WaitStarts,
     opens: OpenWaits,
+    /// The threads that the newest line affected. It is kept for its memory.
+    affected: Vec<ThreadPlace>,
     blocks: Blocks,
     grants: Grants,
     off_times: OffTimes,
     levels: Levels,
     runs: Runs,
-    sections: SectionTable,
-    nests: NestTable,
+    sections: RowTable<Sections>,
+    nests: RowTable<Nests>,
     /// The rows of what ended.
     out: Vec<u8>,
     /// How many of them are of waits, and how many of those were inverted.
@@ -71,6 +74,7 @@ impl Drop for Tracker {
             number: _,
             starts: _,
             opens: _,
+            affected: _,
             blocks: _,
             grants: _,
             off_times: _,
@@ -95,13 +99,14 @@ impl Tracker {
             number: 1,
             starts: WaitStarts::new(alloc),
             opens: OpenWaits::new(alloc),
+            affected: Vec::new(alloc),
             blocks: Blocks::new(alloc),
             grants: Grants::new(alloc),
             off_times: OffTimes::new(alloc),
             levels: Levels::new(alloc),
             runs: Runs::new(alloc),
-            sections: SectionTable::new(alloc),
-            nests: NestTable::new(alloc),
+            sections: RowTable::new(alloc),
+            nests: RowTable::new(alloc),
             out: Vec::new(alloc),
             waits: 0,
             inverted: 0,
@@ -163,10 +168,10 @@ impl Tracker {
         self.number = n;
 
         let (world, out) = (&self.world, &mut self.out);
-        let affected = affected(alloc, world, line, &self.opens)?;
+        put_affected(&mut self.affected, world, line, &self.opens)?;
         let times = self
             .opens
-            .follow(alloc, world, *thread, was.waits, &affected)?;
+            .follow(alloc, world, *thread, was.waits, &self.affected)?;
         let ended = put_ended(
             out,
             world,

@@ -12,13 +12,13 @@ ghost use Rattle.pim_spans.specs.declared.kind.Kind.TheVariants as kinds;
 
 use crate::affected::affected;
 use crate::kind::Kind;
-use crate::lines::{actor, locked_mutex};
 use crate::text::put_tracks;
 use crate::thread_tracks::ThreadTracks;
 use crate::track::Instant;
 use crate::tracks::Tracks;
 use crate::window::Window;
 use pim_fact_lines::Line;
+use pim_rows::{actor, locked_mutex};
 use pim_waits::MutexPlace;
 use pim_world::{Key, Why, World};
 use std::alloc::{AllocError, Global};

@@ -16,7 +16,6 @@ mod affected;
 mod finding;
 mod follower;
 mod kind;
-mod lines;
 mod said;
 mod span;
 mod text;

@@ -1,6 +1,6 @@
 //! Spans in a buffer.
 
-ghost use Rattle.std.specs.Prelude.{◌≡◌, ◌++◌, ◌∷◌, decimal, flat_map, IfOk, Some, ◌+◌};
+ghost use Rattle.std.specs.Prelude.{◌≡◌, ◌++◌, flat_map, IfOk, Some, ◌+◌};
 ghost use Rattle.pim_base.specs.Lists.{numbers};
 ghost use Rattle.pim_world.specs.Held.{world_of};
 ghost use Rattle.pim_spans.specs.Kept.{kept_at, kept_of, all_text};
@@ -11,6 +11,7 @@ use crate::span::Span;
 use crate::track::Track;
 use crate::tracks::Tracks;
 use crate::window::Window;
+use pim_rows::put_number;
 use pim_waits::{MutexPlace, ThreadPlace};
 use pim_world::World;
 use std::alloc::AllocError;
@@ -121,13 +122,4 @@ fn put_line(out: &mut Vec<u8>, kind: Kind, numbers: &[u64]) -> Result<(), AllocE
         put_number(out, *number)?;
     }
     out.extend_from_slice(b"\n")
-}
-
-/// Appends a space and a number in decimal digits.
-fn put_number(out: &mut Vec<u8>, number: u64) -> Result<(), AllocError>
-    ensures { IfOk result (λ _. out.new.items ≡ out.old.items ++ 32 ∷ decimal number) }
-{
-    let mut digits = itoa::Buffer::new();
-    out.extend_from_slice(b" ")?;
-    out.extend_from_slice(digits.format(number).as_bytes())
 }

@@ -57,7 +57,7 @@ returns c ms tracks may =
     let same : AreSame (now ms) (after (now ms) l) c.deref.result.now =
     let P : List ℕ → Type 0 = λ ts. AreSame (now ms) (after (now ms) l) ts in
     subst P (sym c.deref.ensures.value)
-    (c.in_ok-affected.ensures ms w tracks.waiting touches tracks.opens) in
+    (c.in_ok-put_affected.ensures ms w tracks.waiting touches tracks.opens) in
     let opens = c.in_ok-times.ensures.kept ms l w thread was.waits same tracks.opens in
     let times = c.in_ok-times.ensures.ended ms l w thread was.waits tracks.opens in
     let put =

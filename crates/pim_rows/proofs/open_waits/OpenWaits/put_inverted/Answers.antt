@@ -1,6 +1,6 @@
 use Rattle.std.proofs.Common.{arith}
 use Rattle.pim_rows.proofs.Calm.{calm_none, calm_more, calm_all}
-use Rattle.pim_rows.proofs.open_waits.OpenWaits.inverted.Goals as goal
+use Rattle.pim_rows.proofs.open_waits.OpenWaits.put_inverted.Goals as goal
 
 pub loop-index-init : goal.loop-index-init
 loop-index-init c = calm_none c.args.self.now.opens.items _

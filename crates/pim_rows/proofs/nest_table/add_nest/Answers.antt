@@ -1,6 +1,6 @@
 use Rattle.pim_rows.specs.Found.{with_nest}
 use Rattle.pim_rows.proofs.TableLemmas.{put_back}
-use Rattle.pim_rows.proofs.nest_table.NestTable.put.Goals as goal
+use Rattle.pim_rows.proofs.nest_table.add_nest.Goals as goal
 
 pub returns : goal.returns
 returns c =

@@ -1,6 +1,6 @@
 use Rattle.pim_rows.specs.Found.{with_section}
 use Rattle.pim_rows.proofs.TableLemmas.{put_back}
-use Rattle.pim_rows.proofs.section_table.SectionTable.put.Goals as goal
+use Rattle.pim_rows.proofs.section_table.add_section.Goals as goal
 
 pub returns : goal.returns
 returns c =

@@ -1,7 +1,7 @@
 use Rattle.std.proofs.Common.{◌≡◌, ◌≤◌, ℕ, false}
 use Rattle.pim_base.specs.Lists.{nth, contains}
 use Rattle.pim_rows.specs.AllOpen.{IsCalm}
-use Rattle.pim_rows.proofs.open_waits.OpenWaits.inverted.Given as goal
+use Rattle.pim_rows.proofs.open_waits.OpenWaits.put_inverted.Given as goal
 
 -- the inverted waits so far
 abbrev pub invariant-loop-index : goal.invariant-loop-index

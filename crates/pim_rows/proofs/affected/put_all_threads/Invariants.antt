@@ -1,6 +1,6 @@
 use Rattle.std.proofs.Common.{◌≡◌, ◌≤◌, ℕ, true}
 use Rattle.pim_base.specs.Lists.{contains}
-use Rattle.pim_rows.proofs.affected.all_threads.Given as goal
+use Rattle.pim_rows.proofs.affected.put_all_threads.Given as goal
 
 -- the threads so far are there
 abbrev pub invariant-loop-index : goal.invariant-loop-index

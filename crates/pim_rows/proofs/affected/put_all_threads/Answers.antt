@@ -1,7 +1,7 @@
 use Rattle.std.proofs.Common.{◌≡◌, length, ap, arith}
 use Rattle.pim_base.specs.State.{State}
 use Rattle.pim_rows.proofs.SameStanding.{upto_none, upto_more}
-use Rattle.pim_spans.proofs.affected.all_threads.Goals as goal
+use Rattle.pim_rows.proofs.affected.put_all_threads.Goals as goal
 
 pub loop-index-init : goal.loop-index-init
 loop-index-init c t low high = upto_none _ t low high
