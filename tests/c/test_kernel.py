@@ -253,7 +253,7 @@ class Kernel(Played):
         """The script prints the figures that the page names, if it is by the compilers that the page names."""
         status, out, err = answer([str(ROOT / "c/kernel/table")], seconds=2 * SECONDS)
         self.equal("c/kernel/table", (status, err), (0, b""))
-        shown = PAGE.read_text().partition("`c/kernel/table` prints")[2].partition("\nBoth grow")[0]
+        shown = PAGE.read_text().partition("`c/kernel/table` prints")[2].partition("\n## ")[0]
         named = re.findall(r"\b\d,\d{3}\b|\b\d\d,\d{3}\b|\b\d{3}\b", shown)
         self.assertTrue(named, "the page names no figure")
         by = re.findall(r"[\w-]+gcc \([^)]*\) \S+|rattle-kit-\w+", out.decode())
