@@ -99,7 +99,6 @@ impl Tracker {
             number: 1,
             starts: WaitStarts::new(alloc),
             opens: OpenWaits::new(alloc),
-            affected: Vec::new(alloc),
             blocks: Blocks::new(alloc),
             grants: Grants::new(alloc),
             off_times: OffTimes::new(alloc),
@@ -108,6 +107,7 @@ impl Tracker {
             sections: RowTable::new(alloc),
             nests: RowTable::new(alloc),
             out: Vec::new(alloc),
+            affected: Vec::new(alloc),
             waits: 0,
             inverted: 0,
         }
