@@ -82,7 +82,7 @@ class Verdict:
         named = f" ({self.names.mutex(worst.mutex)})" if len(blamed) > 1 else ""
         part = worst.worst_part
         line = (f"Worst: {self.waiter(worst)} waited {duration(worst.lasted)}"
-                f" for {self.names.at(part.runner, part.gets)}{self.short(found.where)}{named}")
+                f"{self.short(found.where)}{named} for {self.names.at(part.runner, part.gets)}")
         if found.meanwhile:
             parts = [(self.names.at(one.thread, one.level), one.time) for one in found.meanwhile]
             line += f", while {shares(parts, 1)}"

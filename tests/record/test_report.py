@@ -51,7 +51,7 @@ PLACE = r"\S+(?: \(\w+\))?"
 LINES = {
     "inversion none 2000": [
         r"high ran late because of mutex\.",
-        rf"Worst: high \(30\) waited \d\.\d\d s for low \(10\) at {PLACE}\.",
+        rf"Worst: high \(30\) waited \d\.\d\d s at {PLACE} for low \(10\)\.",
         rf"Make mutex, from {PLACE}, PTHREAD_PRIO_INHERIT\."],
     "inversion inherit 2000": [
         r"No priority inversion, and no deadlock\.",
